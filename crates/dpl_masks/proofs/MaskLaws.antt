@@ -7,7 +7,8 @@ use Rattle.std.proofs.lemmas.List.{get_or_default}
 use Rattle.std.proofs.lemmas.List.Quantifiers.{all_pairs_push}
 use Rattle.std.proofs.lemmas.Bool.{cases_lt}
 use Rattle.dpl_spec_split.specs.declared.Pt.{Pt}
-use Rattle.dpl_spec_split.specs.Squares.{Covers, Has, Region}
+use Rattle.dpl_spec_split.specs.declared.Rect.{Rect}
+use Rattle.dpl_spec_split.specs.Squares.{Covers, Has, IsSolidWithin, Region}
 use Rattle.dpl_spec_split.specs.Loops.{IsRectWithin, farthest}
 use Rattle.dpl_spec_split.specs.Colours.{AreStitches, colour_at, differ}
 use Rattle.dpl_spec_split.proofs.Ordered.{Contains-cases, Contains-head, Contains-nil}
@@ -66,6 +67,9 @@ adds_then old mid new A B first second f p = (
 pub patches-more : (old new : List Patch) (t : Patch) → new ≡ old ++ t ∷ [] → ArePatchesWithin old → IsRectWithin farthest t.rect → ArePatchesWithin new
 patches-more old new t is within one =
     rw is (λ (s : Patch) c. elim (Contains-push_cases old t s c) [ inl was ↦ within s was | inr same ↦ subst (λ (u : Patch). IsRectWithin farthest u.rect) same one ])
+
+pub solid_within : (bound : ℕ) (r : Rect) → IsSolidWithin bound r → IsRectWithin bound r
+solid_within bound r s = record { left = s.left; low = s.low; right = s.right; high = s.high }
 
 split_at : (n k : ℕ) → k < n + 1 → (k < n) ⊎ (k ≡ n)
 split_at n k h = elim (cases_lt k n) [ inl l ↦ inl l | inr g ↦ inr (omega (arith, g, h)) ]

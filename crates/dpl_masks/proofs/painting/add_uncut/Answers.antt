@@ -1,4 +1,5 @@
 use Rattle.std.proofs.Common.{◌≡◌, ℕ, ◌<◌, ◌∙◌, subst, [], false, length, get_or, map, ap, sym, arith}
+use Rattle.std.proofs.lemmas.Result.{err_from_is_err_and}
 use Rattle.std.proofs.lemmas.List.{get_or-map, get_or_default}
 use Rattle.dpl_orient.specs.Masks.{is_second}
 use Rattle.dpl_orient.specs.declared.mask.Mask.TheVariants.{A}
@@ -30,3 +31,6 @@ returns c =
     subst (λ (n : ℕ). IsSheetTo c.args.cut.now.parts c.args.cut.now.owners.items c.args.cut.now.zones.items c.args.cut.now.sides.items
     c.args.cut.now.wholes.items (map is_second c.args.colours.now) c.args.inks.now (is_second c.args.letter) n 0 c.loop-k.rects.items) all
     c.loop-k.invariant
+
+pub returns-in_err-put_uncut : goal.returns-in_err-put_uncut
+returns-in_err-put_uncut c = rw (err_from_is_err_and c.from_residual.result c.from_residual.ensures.1).1 tt

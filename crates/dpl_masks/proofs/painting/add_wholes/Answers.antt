@@ -1,4 +1,5 @@
 use Rattle.std.proofs.Common.{◌≡◌, ◌<◌, length, get_or, map, sym}
+use Rattle.std.proofs.lemmas.Result.{err_from_is_err_and}
 use Rattle.dpl_orient.specs.Masks.{is_second}
 use Rattle.dpl_masks.proofs.SheetLaws.{sheet-whole}
 use Rattle.dpl_masks.proofs.painting.add_wholes.Goals as goal
@@ -14,3 +15,6 @@ loop-k-preserved c =
     sheet-whole c.args.cut.now.parts c.args.cut.now.owners.items c.args.cut.now.zones.items c.args.cut.now.sides.items wholes
     (map is_second c.args.colours.now) c.args.inks.now (is_second c.args.letter) (length c.args.cut.now.parts) k w _ _ k_in
     (sym here) c.rects.ensures.canonical c.rects.ensures.within c.loop-k.invariant puts
+
+pub returns-in_err-put_whole : goal.returns-in_err-put_whole
+returns-in_err-put_whole c = rw (err_from_is_err_and c.from_residual.result c.from_residual.ensures.1).1 tt

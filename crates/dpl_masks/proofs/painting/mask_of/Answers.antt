@@ -1,4 +1,5 @@
 use Rattle.std.proofs.Common.{map}
+use Rattle.std.proofs.lemmas.Result.{IfOk-from_err}
 use Rattle.dpl_spec_split.specs.Loops.{farthest}
 use Rattle.dpl_slabs.proofs.RowLaws.{within-slabs}
 use Rattle.dpl_orient.specs.Masks.{is_second}
@@ -22,3 +23,27 @@ returns-clause-mask c =
 
 pub returns-clause-within : goal.returns-clause-within
 returns-clause-within c = within-slabs farthest _ _ c.in_ok-add_wholes.ensures.sheet.within c.of_scattered.ensures
+
+pub returns-in_err-rest-clause-mask : goal.returns-in_err-rest-clause-mask
+returns-in_err-rest-clause-mask c = IfOk-from_err _ _ c.from_residual.ensures.0
+
+pub returns-in_err-rest-clause-within : goal.returns-in_err-rest-clause-within
+returns-in_err-rest-clause-within c = IfOk-from_err _ _ c.from_residual.ensures.0
+
+pub returns-in_err-rects-clause-mask : goal.returns-in_err-rects-clause-mask
+returns-in_err-rects-clause-mask c = IfOk-from_err _ _ c.from_residual-in_err-rects.ensures.0
+
+pub returns-in_err-rects-clause-within : goal.returns-in_err-rects-clause-within
+returns-in_err-rects-clause-within c = IfOk-from_err _ _ c.from_residual-in_err-rects.ensures.0
+
+pub returns-in_err-add_uncut-clause-mask : goal.returns-in_err-add_uncut-clause-mask
+returns-in_err-add_uncut-clause-mask c = IfOk-from_err _ _ c.from_residual-in_err-add_uncut.ensures.0
+
+pub returns-in_err-add_uncut-clause-within : goal.returns-in_err-add_uncut-clause-within
+returns-in_err-add_uncut-clause-within c = IfOk-from_err _ _ c.from_residual-in_err-add_uncut.ensures.0
+
+pub returns-in_err-add_wholes-clause-mask : goal.returns-in_err-add_wholes-clause-mask
+returns-in_err-add_wholes-clause-mask c = IfOk-from_err _ _ c.from_residual-in_err-add_wholes.ensures.0
+
+pub returns-in_err-add_wholes-clause-within : goal.returns-in_err-add_wholes-clause-within
+returns-in_err-add_wholes-clause-within c = IfOk-from_err _ _ c.from_residual-in_err-add_wholes.ensures.0

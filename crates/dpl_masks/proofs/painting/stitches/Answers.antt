@@ -1,4 +1,5 @@
 use Rattle.std.proofs.Common.{◌≡◌, ◌∙◌, ◌<◌, Bool, ap, sym, arith, false, length, map, get_or}
+use Rattle.std.proofs.lemmas.Result.{err_from_is_err_and}
 use Rattle.std.proofs.lemmas.List.{get_or-map, get_or_default}
 use Rattle.dpl_spec_split.specs.Colours.{differ}
 use Rattle.dpl_orient.specs.Masks.{is_second}
@@ -20,3 +21,6 @@ pub returns : goal.returns
 returns c =
     let whole : c.loop-k.k ≡ length c.args.sides.now = omega arith in
     are_stitches c.loop-k.k c.args.sides.now (map is_second c.args.colours.now) c.loop-k.stitches.items whole c.loop-k.invariant
+
+pub returns-in_err-add_stitch : goal.returns-in_err-add_stitch
+returns-in_err-add_stitch c = rw (err_from_is_err_and c.from_residual.result c.from_residual.ensures.1).1 tt

@@ -1,4 +1,5 @@
 use Rattle.std.proofs.Common.{◌≡◌, ℕ, ◌<◌, subst, false, length, map, refl, sym, arith}
+use Rattle.std.proofs.lemmas.Result.{err_from_is_err_and}
 use Rattle.std.proofs.lemmas.List.{get_or-map}
 use Rattle.dpl_orient.specs.Masks.{is_second}
 use Rattle.dpl_orient.specs.declared.mask.Mask.TheVariants.{A}
@@ -25,3 +26,9 @@ returns-clause-adds c =
     let all : c.loop-k.k ≡ length c.args.parts.now = omega arith in
     subst (λ (n : ℕ). Adds c.args.patches.now.items c.loop-k.patches.items (rest_pieces n c.args.parts.now c.args.owners.now
     (map is_second c.args.colours.now) c.args.inks.now (is_second c.args.letter))) all c.loop-k.invariant.adds
+
+pub returns-in_err-add_rest_piece-clause-adds : goal.returns-in_err-add_rest_piece-clause-adds
+returns-in_err-add_rest_piece-clause-adds c = rw (err_from_is_err_and c.from_residual.result c.from_residual.ensures.1).1 tt
+
+pub returns-in_err-add_rest_piece-clause-within : goal.returns-in_err-add_rest_piece-clause-within
+returns-in_err-add_rest_piece-clause-within c = rw (err_from_is_err_and c.from_residual.result c.from_residual.ensures.1).1 tt

@@ -1,4 +1,5 @@
 use Rattle.std.proofs.Common.{◌≡◌, ℕ, ◌<◌, subst, false, length, get_or, map, refl, sym, arith}
+use Rattle.std.proofs.lemmas.Result.{err_from_is_err_and}
 use Rattle.std.proofs.lemmas.List.{get_or-map, get_or_default}
 use Rattle.dpl_orient.specs.Masks.{is_second}
 use Rattle.dpl_orient.specs.declared.mask.Mask.TheVariants.{A}
@@ -29,3 +30,9 @@ returns-clause-adds c =
     let all : c.loop-k.k ≡ length c.args.zones.now = omega arith in
     subst (λ (n : ℕ). Adds c.args.patches.now.items c.loop-k.patches.items (rest_zones n c.args.zones.now c.args.sides.now
     (map is_second c.args.colours.now) c.args.inks.now (is_second c.args.letter))) all c.loop-k.invariant.adds
+
+pub returns-in_err-add_rest_zone-clause-adds : goal.returns-in_err-add_rest_zone-clause-adds
+returns-in_err-add_rest_zone-clause-adds c = rw (err_from_is_err_and c.from_residual.result c.from_residual.ensures.1).1 tt
+
+pub returns-in_err-add_rest_zone-clause-within : goal.returns-in_err-add_rest_zone-clause-within
+returns-in_err-add_rest_zone-clause-within c = rw (err_from_is_err_and c.from_residual.result c.from_residual.ensures.1).1 tt

@@ -1,4 +1,5 @@
 use Rattle.std.proofs.Common.{◌≡◌, ◌<◌, ◌≤◌, List, length, subst, sym, arith}
+use Rattle.std.proofs.lemmas.Result.{err_from_is_err_and}
 use Rattle.std.proofs.lemmas.List.{get_or_default, take_all}
 use Rattle.std.proofs.lemmas.List.Elements.{Contains-get_or}
 use Rattle.dpl_spec_split.specs.declared.Rect.{Rect}
@@ -26,3 +27,9 @@ returns-clause-adds c =
     let all : length c.args.slabs.now ≤ c.loop-k.k = omega arith in
     subst (λ (l : List Rect). Adds c.args.patches.now.items c.loop-k.patches.items (λ f p. (c.args.feature ≡ f) × Covers l p))
     (take_all c.loop-k.k c.args.slabs.now all) c.loop-k.invariant.adds
+
+pub returns-in_err-push-clause-adds : goal.returns-in_err-push-clause-adds
+returns-in_err-push-clause-adds c = rw (err_from_is_err_and c.from_residual.result c.from_residual.ensures.1).1 tt
+
+pub returns-in_err-push-clause-within : goal.returns-in_err-push-clause-within
+returns-in_err-push-clause-within c = rw (err_from_is_err_and c.from_residual.result c.from_residual.ensures.1).1 tt

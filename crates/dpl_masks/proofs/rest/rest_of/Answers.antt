@@ -1,4 +1,5 @@
 use Rattle.std.proofs.Common.{map}
+use Rattle.std.proofs.lemmas.Result.{IfOk-from_err}
 use Rattle.dpl_orient.specs.Masks.{is_second}
 use Rattle.dpl_masks.proofs.RestLaws.{are-rest}
 use Rattle.dpl_masks.proofs.SheetLaws.{inked-owned, inked-owners, inked-sides}
@@ -20,3 +21,15 @@ returns-clause-rest c =
     let pieces = rw (c.items.ensures.value, c.deref-3.ensures.value) at c.in_ok-add_rest_pieces.ensures.adds in
     are-rest cut.parts cut.owners.items cut.zones.items cut.sides.items (map is_second c.args.colours.now) c.args.inks.now (is_second c.args.letter) _ _ _ _
     c.new-patches.ensures.items zones pieces c.in_ok-add_rest_pieces.ensures.within c.sort_by_feature.ensures.same
+
+pub returns-in_err-add_rest_zones-clause-rest : goal.returns-in_err-add_rest_zones-clause-rest
+returns-in_err-add_rest_zones-clause-rest c = IfOk-from_err _ _ c.from_residual.ensures.0
+
+pub returns-in_err-add_rest_zones-clause-rise : goal.returns-in_err-add_rest_zones-clause-rise
+returns-in_err-add_rest_zones-clause-rise c = IfOk-from_err _ _ c.from_residual.ensures.0
+
+pub returns-in_err-add_rest_pieces-clause-rest : goal.returns-in_err-add_rest_pieces-clause-rest
+returns-in_err-add_rest_pieces-clause-rest c = IfOk-from_err _ _ c.from_residual-in_err-add_rest_pieces.ensures.0
+
+pub returns-in_err-add_rest_pieces-clause-rise : goal.returns-in_err-add_rest_pieces-clause-rise
+returns-in_err-add_rest_pieces-clause-rise c = IfOk-from_err _ _ c.from_residual-in_err-add_rest_pieces.ensures.0

@@ -1,4 +1,5 @@
 use Rattle.std.proofs.Common.{◌++◌, ◌∙◌, List, ap, arith}
+use Rattle.std.proofs.lemmas.Result.{IfOk-from_err}
 use Rattle.dpl_spec_split.specs.declared.Rect.{Rect}
 use Rattle.dpl_orient.specs.Masks.{is_second}
 use Rattle.dpl_masks.proofs.SheetLaws.{its-more}
@@ -20,3 +21,21 @@ returns-clause-united c =
     c.args.start c.own_end-end.result c.args.rects.now.items _ _ c.requires.some c.own_end-end.ensures
     (c.in_ok-extend_from_slice.ensures.items ∙ ap (λ (l : List Rect). c.args.rects.now.items ++ l) c.rects.ensures.value) c.in_ok-slabs.ensures
     c.rects.ensures.within c.requires.united
+
+pub returns-in_err-slabs-clause-more : goal.returns-in_err-slabs-clause-more
+returns-in_err-slabs-clause-more c = IfOk-from_err _ _ c.from_residual.ensures.0
+
+pub returns-in_err-slabs-clause-within : goal.returns-in_err-slabs-clause-within
+returns-in_err-slabs-clause-within c = IfOk-from_err _ _ c.from_residual.ensures.0
+
+pub returns-in_err-slabs-clause-united : goal.returns-in_err-slabs-clause-united
+returns-in_err-slabs-clause-united c = IfOk-from_err _ _ c.from_residual.ensures.0
+
+pub returns-in_err-extend_from_slice-clause-more : goal.returns-in_err-extend_from_slice-clause-more
+returns-in_err-extend_from_slice-clause-more c = IfOk-from_err _ _ c.from_residual-in_err-extend_from_slice.ensures.0
+
+pub returns-in_err-extend_from_slice-clause-within : goal.returns-in_err-extend_from_slice-clause-within
+returns-in_err-extend_from_slice-clause-within c = IfOk-from_err _ _ c.from_residual-in_err-extend_from_slice.ensures.0
+
+pub returns-in_err-extend_from_slice-clause-united : goal.returns-in_err-extend_from_slice-clause-united
+returns-in_err-extend_from_slice-clause-united c = IfOk-from_err _ _ c.from_residual-in_err-extend_from_slice.ensures.0

@@ -2,7 +2,7 @@ use Rattle.std.proofs.Common.{◌≡◌, ℕ, ◌<◌, length, sym, subst, arith
 use Rattle.std.specs.Prelude.{◌↔◌}
 use Rattle.std.proofs.lemmas.List.{get_or_default}
 use Rattle.std.proofs.lemmas.List.Elements.{Contains-get_or}
-use Rattle.std.proofs.lemmas.Result.{IfOk-weaker}
+use Rattle.std.proofs.lemmas.Result.{IfOk-from_err, IfOk-weaker}
 use Rattle.dpl_spec_split.specs.declared.Pt.{Pt}
 use Rattle.dpl_spec_split.specs.Squares.{Covers}
 use Rattle.dpl_spec_split.specs.Loops.{farthest}
@@ -34,3 +34,9 @@ returns c =
     let all : c.loop-k.k ≡ c.args.end = omega arith in
     let covers = subst (λ (n : ℕ). (p : Pt) → Covers c.loop-k.rects.items p ↔ HoldFrom c.args.patches.now c.args.start n p) all c.loop-k.invariant.covers in
     IfOk-weaker _ _ _ (λ s h. held-slabs c.args.patches.now c.args.start c.args.end _ s covers h) c.of_rects.ensures
+
+pub returns-in_err-rects : goal.returns-in_err-rects
+returns-in_err-rects c = IfOk-from_err _ _ c.from_residual.ensures.0
+
+pub returns-in_err-push : goal.returns-in_err-push
+returns-in_err-push c = IfOk-from_err _ _ c.from_residual-in_err-push.ensures.0
