@@ -1,4 +1,5 @@
 use Rattle.std.proofs.Common.{◌≡◌, ◌∙◌, ◌+◌, ◌++◌, ◌∷◌, [], sym, subst, rules, length, vec_len, arith, List, All, ℕ, map, append_assoc, length-append}
+use Rattle.std.proofs.lemmas.Result.{IfOk-from_err}
 use Rattle.dpl_deal.specs.declared.hand.Hand.{Hand}
 use Rattle.dpl_deal.specs.Hands.{EachAt, IsDone, IsHandOf, all_taken}
 use Rattle.dpl_pool.specs.declared.member.Member.{Member}
@@ -42,3 +43,12 @@ loop-member-preserved g c =
           (covers_more sheets c.loop-member.hands.items h later (histories_of c.loop-member.seats.items) (histories_of c.in-Some.member.seats.items)
           c.rejoin_all.ensures.seen c.rejoin_all.ensures.told i.7 mine.0.covers),
     )
+
+pub returns-in_err-push-clause-len : goal.returns-in_err-push-clause-len
+returns-in_err-push-clause-len g c = IfOk-from_err _ _ c.from_residual.ensures.0
+
+pub returns-in_err-push-clause-hands : goal.returns-in_err-push-clause-hands
+returns-in_err-push-clause-hands g c = IfOk-from_err _ _ c.from_residual.ensures.0
+
+pub returns-in_err-push-clause-covers : goal.returns-in_err-push-clause-covers
+returns-in_err-push-clause-covers g c = IfOk-from_err _ _ c.from_residual.ensures.0

@@ -1,4 +1,5 @@
 use Rattle.std.proofs.Common.{◌≡◌, ◌∙◌, ◌<◌, ℕ, sym, ap, subst, rules, length, vec_len, arith, map, get_or, List, []}
+use Rattle.std.proofs.lemmas.Result.{IfOk-from_err}
 use Rattle.std.specs.Prelude.{IfOk, Result, Ok, Err}
 use Rattle.std.specs.List.{AllZip}
 use Rattle.dpl_board.specs.Sheets.{Sheet}
@@ -67,3 +68,21 @@ returns g c =
     (λ j k lt. all_posted (map sheet_of s1) c.in_ok-deal.deal.tiles (all_taken c.in_ok-hands.hands.items) (histories_of s2) count c.close.ensures
     c.in_ok-hands.ensures.covers j k (subst (λ (z : List Sheet). k < length (get_or z j [])) c.gathered.ensures.sheets lt))))
     c.close_all.ensures
+
+pub returns-in_err-numbers : goal.returns-in_err-numbers
+returns-in_err-numbers g c = IfOk-from_err _ _ c.from_residual.ensures.0
+
+pub returns-in_err-deal : goal.returns-in_err-deal
+returns-in_err-deal g c = IfOk-from_err _ _ c.from_residual-in_err-deal.ensures.0
+
+pub returns-in_err-boards : goal.returns-in_err-boards
+returns-in_err-boards g c = IfOk-from_err _ _ c.from_residual-in_err-boards.ensures.0
+
+pub returns-in_err-members : goal.returns-in_err-members
+returns-in_err-members g c = IfOk-from_err _ _ c.from_residual-in_err-members.ensures.0
+
+pub returns-in_err-done : goal.returns-in_err-done
+returns-in_err-done g c = IfOk-from_err _ _ c.from_residual-in_err-done.ensures.0
+
+pub returns-in_err-hands : goal.returns-in_err-hands
+returns-in_err-hands g c = IfOk-from_err _ _ c.from_residual-in_err-hands.ensures.0

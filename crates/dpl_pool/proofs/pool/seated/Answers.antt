@@ -1,4 +1,5 @@
 use Rattle.std.proofs.Common.{◌≡◌, ◌∙◌, ◌+◌, ◌<◌, ◌≤◌, ◌++◌, ◌∷◌, [], refl, sym, subst, rules, length, vec_len, arith, false, All, ℕ, map, get_or, append_assoc, length-append}
+use Rattle.std.proofs.lemmas.Result.{IfOk-from_err}
 use Rattle.dpl_deal.specs.declared.hand.Hand.{Hand}
 use Rattle.dpl_deal.specs.Hands.{EachAt, IsHandOf, taken}
 use Rattle.dpl_turn.specs.declared.seat.Seat.{Seat}
@@ -49,3 +50,15 @@ loop-hand-preserved g c =
 
 pub returns-clause-members : goal.returns-clause-members
 returns-clause-members g c = λ deal hs. c.loop-hand.invariant.5 deal hs.1
+
+pub returns-in_err-others-clause-len : goal.returns-in_err-others-clause-len
+returns-in_err-others-clause-len g c = IfOk-from_err _ _ c.from_residual.ensures.0
+
+pub returns-in_err-others-clause-members : goal.returns-in_err-others-clause-members
+returns-in_err-others-clause-members g c = IfOk-from_err _ _ c.from_residual.ensures.0
+
+pub returns-in_err-push-clause-len : goal.returns-in_err-push-clause-len
+returns-in_err-push-clause-len g c = IfOk-from_err _ _ c.from_residual-in_err-push.ensures.0
+
+pub returns-in_err-push-clause-members : goal.returns-in_err-push-clause-members
+returns-in_err-push-clause-members g c = IfOk-from_err _ _ c.from_residual-in_err-push.ensures.0

@@ -1,4 +1,5 @@
 use Rattle.std.proofs.Common.{◌≡◌, ◌∙◌, ◌++◌, ◌∷◌, [], List, sym, ap, subst, rules, length, map, append_assoc}
+use Rattle.std.proofs.lemmas.Result.{IfOk-from_err}
 use Rattle.std.specs.List.{AllZip}
 use Rattle.dpl_board.specs.Boards.{Board}
 use Rattle.dpl_turn.specs.declared.seat.Seat.{Seat}
@@ -31,3 +32,9 @@ returns g c =
     let end = both_end table_of board_table c.loop-board.waiting.rest.items c.loop-board.board-iterator.rest.items inv.2 none in
     subst (λ (l : List Seat). AllZip IsClosed (map knows l) c.loop-board.states.items)
     (append_none inv.0 c.loop-board.waiting.rest.items c.args.seats.items inv.1 end) inv.3
+
+pub returns-in_err-state : goal.returns-in_err-state
+returns-in_err-state g c = IfOk-from_err _ _ c.from_residual.ensures.0
+
+pub returns-in_err-push : goal.returns-in_err-push
+returns-in_err-push g c = IfOk-from_err _ _ c.from_residual-in_err-push.ensures.0

@@ -1,4 +1,5 @@
 use Rattle.std.proofs.Common.{◌≡◌, ◌∙◌, ◌<◌, ◌≤◌, ◌++◌, ◌∷◌, [], refl, sym, ap, subst, rules, length, map, All, arith}
+use Rattle.std.proofs.lemmas.Result.{IfOk-from_err}
 use Rattle.std.proofs.lemmas.List.{length-map, map-append, take_all}
 use Rattle.dpl_deal.proofs.Dealings.{map_take_next}
 use Rattle.dpl_turn.specs.declared.seat.Seat.{Seat}
@@ -32,3 +33,30 @@ loop-job-preserved g c =
 pub returns-clause-sheets : goal.returns-clause-sheets
 returns-clause-sheets g c = c.loop-job.invariant.1 ∙ take_all c.loop-job.job-index (map g.J.Job.sheet c.args.jobs.now)
     (let e : length c.args.jobs.now ≤ c.loop-job.job-index = c.loop-job-test.false in omega (arith, e, length-map c.args.jobs.now g.J.Job.sheet))
+
+pub returns-in_err-board-clause-tables : goal.returns-in_err-board-clause-tables
+returns-in_err-board-clause-tables g c = IfOk-from_err _ _ c.from_residual.ensures.0
+
+pub returns-in_err-board-clause-sheets : goal.returns-in_err-board-clause-sheets
+returns-in_err-board-clause-sheets g c = IfOk-from_err _ _ c.from_residual.ensures.0
+
+pub returns-in_err-board-clause-workers : goal.returns-in_err-board-clause-workers
+returns-in_err-board-clause-workers g c = IfOk-from_err _ _ c.from_residual.ensures.0
+
+pub returns-in_err-push-clause-tables : goal.returns-in_err-push-clause-tables
+returns-in_err-push-clause-tables g c = IfOk-from_err _ _ c.from_residual-in_err-push.ensures.0
+
+pub returns-in_err-push-clause-sheets : goal.returns-in_err-push-clause-sheets
+returns-in_err-push-clause-sheets g c = IfOk-from_err _ _ c.from_residual-in_err-push.ensures.0
+
+pub returns-in_err-push-clause-workers : goal.returns-in_err-push-clause-workers
+returns-in_err-push-clause-workers g c = IfOk-from_err _ _ c.from_residual-in_err-push.ensures.0
+
+pub returns-in_err-push-2-clause-tables : goal.returns-in_err-push-2-clause-tables
+returns-in_err-push-2-clause-tables g c = IfOk-from_err _ _ c.from_residual-in_err-push-2.ensures.0
+
+pub returns-in_err-push-2-clause-sheets : goal.returns-in_err-push-2-clause-sheets
+returns-in_err-push-2-clause-sheets g c = IfOk-from_err _ _ c.from_residual-in_err-push-2.ensures.0
+
+pub returns-in_err-push-2-clause-workers : goal.returns-in_err-push-2-clause-workers
+returns-in_err-push-2-clause-workers g c = IfOk-from_err _ _ c.from_residual-in_err-push-2.ensures.0

@@ -1,4 +1,5 @@
 use Rattle.std.proofs.Common.{◌≡◌, ◌∙◌, ◌<◌, ◌≤◌, ◌++◌, ◌∷◌, [], sym, ap, rules, length, vec_len, get_or, map, arith}
+use Rattle.std.proofs.lemmas.Result.{IfOk-from_err}
 use Rattle.std.proofs.lemmas.List.{length-map, get_or-map, take_all}
 use Rattle.dpl_deal.proofs.Takings.{map_put}
 use Rattle.dpl_deal.proofs.Dealings.{map_take_next}
@@ -76,3 +77,9 @@ pub returns-clause-new : goal.returns-clause-new
 returns-clause-new g c = c.loop-at.invariant.4 ∙ take_all c.loop-at.at (map as_newcomer (map knows c.args.seats.now.items))
     (let e : length c.args.seats.now.items ≤ c.loop-at.at = search rules in
     omega (arith, e, length-map (map knows c.args.seats.now.items) as_newcomer, length-map c.args.seats.now.items knows))
+
+pub returns-in_err-push-clause-others : goal.returns-in_err-push-clause-others
+returns-in_err-push-clause-others g c = IfOk-from_err _ _ c.from_residual.ensures.0
+
+pub returns-in_err-push-clause-new : goal.returns-in_err-push-clause-new
+returns-in_err-push-clause-new g c = IfOk-from_err _ _ c.from_residual.ensures.0

@@ -1,4 +1,5 @@
 use Rattle.std.proofs.Common.{◌≡◌, ◌∙◌, ◌+◌, ◌<◌, ◌++◌, ◌∷◌, [], ℕ, refl, sym, ap, subst, rules, length, vec_len, map, arith}
+use Rattle.std.proofs.lemmas.Result.{IfOk-from_err}
 use Rattle.std.proofs.lemmas.List.{length-map}
 use Rattle.dpl_deal.specs.Hands.{EachAt}
 use Rattle.dpl_pool.specs.Numbering.{tiles_before}
@@ -34,3 +35,6 @@ overflow_add-tiles g c =
     let count = c.tiles-tiles.ensures.count ∙ ap length (here g.J.Job.sheet jobs sheets i c.job-item.result [] refl lt c.job-item.is) in
     let n = numbers_next sheets c.loop-job.firsts.items i c.loop-job.tiles c.tiles-tiles.result (sym len ∙ inv.0) (omega (arith, lt, length-map jobs g.J.Job.sheet)) inv.1 inv.2 count in
     let most = n.2 in let few = c.requires in omega arith
+
+pub returns-in_err-push : goal.returns-in_err-push
+returns-in_err-push g c = IfOk-from_err _ _ c.from_residual.ensures.0
