@@ -1,4 +1,5 @@
 use Rattle.std.proofs.Common.{◌≡◌, subst, arith}
+use Rattle.std.proofs.lemmas.Result.{IfOk-from_err}
 use Rattle.dpl_spec_split.specs.Graphs.{graph_of}
 use Rattle.dpl_odd.specs.Paths.{AreLowest, IsForest}
 use Rattle.dpl_odd.proofs.ReportLaws.{none-even, forest-of, level-root, reported-of, reported-odd}
@@ -43,3 +44,30 @@ returns-clause-odd c =
     reported-odd c.args.edges.now c.args.n c.requires c.in_ok-cycle.cycle.items
     (reported-of c.args.edges.now c.args.n levels.roots.items levels.levels.items parents.items c.requires c.in_ok-levels.ensures lowest
     (c.in-Some.u, c.in-Some.v) c.in-Some.ensures c.in_ok-cycle.cycle.items c.in_ok-cycle.ensures)
+
+pub returns-in_err-levels-clause-none : goal.returns-in_err-levels-clause-none
+returns-in_err-levels-clause-none c = IfOk-from_err _ _ c.from_residual.ensures.0
+
+pub returns-in_err-levels-clause-reported : goal.returns-in_err-levels-clause-reported
+returns-in_err-levels-clause-reported c = IfOk-from_err _ _ c.from_residual.ensures.0
+
+pub returns-in_err-levels-clause-odd : goal.returns-in_err-levels-clause-odd
+returns-in_err-levels-clause-odd c = IfOk-from_err _ _ c.from_residual.ensures.0
+
+pub returns-in_err-parents-clause-none : goal.returns-in_err-parents-clause-none
+returns-in_err-parents-clause-none c = IfOk-from_err _ _ c.from_residual-in_err-parents.ensures.0
+
+pub returns-in_err-parents-clause-reported : goal.returns-in_err-parents-clause-reported
+returns-in_err-parents-clause-reported c = IfOk-from_err _ _ c.from_residual-in_err-parents.ensures.0
+
+pub returns-in_err-parents-clause-odd : goal.returns-in_err-parents-clause-odd
+returns-in_err-parents-clause-odd c = IfOk-from_err _ _ c.from_residual-in_err-parents.ensures.0
+
+pub returns-in_err-cycle-clause-none : goal.returns-in_err-cycle-clause-none
+returns-in_err-cycle-clause-none c = IfOk-from_err _ _ c.from_residual-in_err-cycle.ensures.0
+
+pub returns-in_err-cycle-clause-reported : goal.returns-in_err-cycle-clause-reported
+returns-in_err-cycle-clause-reported c = IfOk-from_err _ _ c.from_residual-in_err-cycle.ensures.0
+
+pub returns-in_err-cycle-clause-odd : goal.returns-in_err-cycle-clause-odd
+returns-in_err-cycle-clause-odd c = IfOk-from_err _ _ c.from_residual-in_err-cycle.ensures.0

@@ -1,6 +1,6 @@
 use Rattle.std.proofs.Common.{◌≡◌, ℕ, List, Option, Some, length, subst, sym, arith}
 use Rattle.std.specs.List.{Contains}
-use Rattle.std.proofs.lemmas.Result.{IfOk-weaker}
+use Rattle.std.proofs.lemmas.Result.{IfOk-from_err, IfOk-weaker}
 use Rattle.dpl_spec_split.specs.Graphs.{graph_of}
 use Rattle.dpl_odd.specs.Paths.{AreLowest, IsForest}
 use Rattle.dpl_odd.specs.Tables.{AreClosed, IsClosing}
@@ -52,3 +52,39 @@ returns-clause-none c = IfOk-weaker c.cycles_through.result _ _ (λ cycles are. 
 
 pub returns-clause-first : goal.returns-clause-first
 returns-clause-first c = IfOk-weaker c.cycles_through.result _ _ (λ cycles are. first-reported c.args.edges.now c.args.n c.requires cycles.items are) (returns-clause-cycles c)
+
+pub returns-in_err-levels-clause-cycles : goal.returns-in_err-levels-clause-cycles
+returns-in_err-levels-clause-cycles c = IfOk-from_err _ _ c.from_residual.ensures.0
+
+pub returns-in_err-levels-clause-odd : goal.returns-in_err-levels-clause-odd
+returns-in_err-levels-clause-odd c = IfOk-from_err _ _ c.from_residual.ensures.0
+
+pub returns-in_err-levels-clause-none : goal.returns-in_err-levels-clause-none
+returns-in_err-levels-clause-none c = IfOk-from_err _ _ c.from_residual.ensures.0
+
+pub returns-in_err-levels-clause-first : goal.returns-in_err-levels-clause-first
+returns-in_err-levels-clause-first c = IfOk-from_err _ _ c.from_residual.ensures.0
+
+pub returns-in_err-least-clause-cycles : goal.returns-in_err-least-clause-cycles
+returns-in_err-least-clause-cycles c = IfOk-from_err _ _ c.from_residual-in_err-least.ensures.0
+
+pub returns-in_err-least-clause-odd : goal.returns-in_err-least-clause-odd
+returns-in_err-least-clause-odd c = IfOk-from_err _ _ c.from_residual-in_err-least.ensures.0
+
+pub returns-in_err-least-clause-none : goal.returns-in_err-least-clause-none
+returns-in_err-least-clause-none c = IfOk-from_err _ _ c.from_residual-in_err-least.ensures.0
+
+pub returns-in_err-least-clause-first : goal.returns-in_err-least-clause-first
+returns-in_err-least-clause-first c = IfOk-from_err _ _ c.from_residual-in_err-least.ensures.0
+
+pub returns-in_err-parents-clause-cycles : goal.returns-in_err-parents-clause-cycles
+returns-in_err-parents-clause-cycles c = IfOk-from_err _ _ c.from_residual-in_err-parents.ensures.0
+
+pub returns-in_err-parents-clause-odd : goal.returns-in_err-parents-clause-odd
+returns-in_err-parents-clause-odd c = IfOk-from_err _ _ c.from_residual-in_err-parents.ensures.0
+
+pub returns-in_err-parents-clause-none : goal.returns-in_err-parents-clause-none
+returns-in_err-parents-clause-none c = IfOk-from_err _ _ c.from_residual-in_err-parents.ensures.0
+
+pub returns-in_err-parents-clause-first : goal.returns-in_err-parents-clause-first
+returns-in_err-parents-clause-first c = IfOk-from_err _ _ c.from_residual-in_err-parents.ensures.0

@@ -1,4 +1,5 @@
 use Rattle.std.proofs.Common.{◌≡◌, ◌+◌, ℕ, List, length, sym, refl, subst, ◌∙◌, arith}
+use Rattle.std.proofs.lemmas.Result.{IfOk-from_err}
 use Rattle.dpl_odd.specs.Paths.{edge_at, AreLowest, IsLowered}
 use Rattle.dpl_odd.proofs.ParentLaws.{first_edges, lowered-length, lowest-step, lowest-all, all-back}
 use Rattle.dpl_odd.proofs.forest.parents_of.Goals as goal
@@ -27,3 +28,6 @@ returns c =
     let end : c.loop-u.u-index ≡ length c.args.edges.now = omega (arith, c.loop-u-test.false, c.loop-u.auto.u-index-end) in
     lowest-all c.args.edges.now c.args.n c.args.levels.now c.loop-u.parents.items
     (subst (λ i. AreLowest (first_edges c.args.edges.now i) c.args.n c.args.levels.now c.loop-u.parents.items) end c.loop-u.invariant)
+
+pub returns-in_err-parents : goal.returns-in_err-parents
+returns-in_err-parents c = IfOk-from_err _ _ c.from_residual.ensures.0

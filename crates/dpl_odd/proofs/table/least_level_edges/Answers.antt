@@ -1,4 +1,5 @@
 use Rattle.std.proofs.Common.{◌≡◌, ◌<◌, ℕ, None, length, get_or, sym, refl, arith}
+use Rattle.std.proofs.lemmas.Result.{IfOk-from_err}
 use Rattle.std.proofs.lemmas.List.{get_or_read}
 use Rattle.dpl_odd.specs.Paths.{edge_at}
 use Rattle.dpl_odd.proofs.TableLaws.{table-step}
@@ -21,3 +22,6 @@ loop-edge-preserved c =
     let root_in : root < length least.items = omega (arith, here, inside, long, levels.ok.0) in
     table-step roots.items levels.items c.args.edges.now i root e least.items _ c.index-in-loop-edge.result.now c.lesser.result refl here root_in
     (get_or_read least.items root c.index-in-loop-edge.result.now root_in c.index-in-loop-edge.ensures None) c.lesser.ensures refl c.loop-edge.invariant
+
+pub returns-in_err-least : goal.returns-in_err-least
+returns-in_err-least c = IfOk-from_err _ _ c.from_residual.ensures.0

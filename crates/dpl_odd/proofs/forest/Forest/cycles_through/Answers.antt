@@ -1,4 +1,5 @@
 use Rattle.std.proofs.Common.{◌≡◌, ◌+◌, ◌++◌, ◌∷◌, [], ℕ, List, Option, Some, None, sym, refl, ap, subst, ◌∙◌}
+use Rattle.std.proofs.lemmas.Result.{IfOk-from_err}
 use Rattle.std.proofs.lemmas.List.{get_or_default}
 use Rattle.dpl_odd.specs.Tables.{AreClosed, start, skips, takes}
 use Rattle.dpl_odd.proofs.forest.Forest.cycles_through.Goals.{in-Some+in_ok-cycle+in_ok-push, in_default}
@@ -48,3 +49,9 @@ loop-edge-preserved c =
             (ap (λ v. v.items) (sym w.cycles-is)) (skips h w.in_default.is refl),
       )
     ]
+
+pub returns-in_err-cycle : goal.returns-in_err-cycle
+returns-in_err-cycle c = IfOk-from_err _ _ c.from_residual.ensures.0
+
+pub returns-in_err-push : goal.returns-in_err-push
+returns-in_err-push c = IfOk-from_err _ _ c.from_residual-in_err-push.ensures.0
