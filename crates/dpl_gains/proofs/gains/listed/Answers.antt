@@ -1,4 +1,5 @@
 use Rattle.std.proofs.Common.{arith}
+use Rattle.std.proofs.lemmas.Result.{IfOk-from_err}
 use Rattle.dpl_gains.proofs.Listing.{listed-pass, listed-more}
 use Rattle.dpl_gains.proofs.gains.listed.Goals.{in-Some+in_ok-push, in_default}
 use Rattle.dpl_gains.proofs.gains.listed.Goals as goal
@@ -17,3 +18,9 @@ returns-clause-exactly c = λ g. (
   λ is. (c.loop-piece.invariant.exactly g).1
       ((let w = is.within in let end = c.loop-piece-test.false in omega (arith, w, end)), is),
 )
+
+pub returns-in_err-push-clause-ordered : goal.returns-in_err-push-clause-ordered
+returns-in_err-push-clause-ordered c = IfOk-from_err _ _ c.from_residual.ensures.0
+
+pub returns-in_err-push-clause-exactly : goal.returns-in_err-push-clause-exactly
+returns-in_err-push-clause-exactly c = IfOk-from_err _ _ c.from_residual.ensures.0

@@ -1,4 +1,5 @@
 use Rattle.std.proofs.Common.{◌≡◌, [], get_or, length, ◌∙◌, sym, refl, subst, arith}
+use Rattle.std.proofs.lemmas.Result.{IfOk-from_err}
 use Rattle.std.proofs.lemmas.Bool.{false≢true}
 use Rattle.std.proofs.lemmas.List.{get_or_default, nil_from_length}
 use Rattle.dpl_spec_split.specs.Squares.{Covers}
@@ -33,3 +34,15 @@ returns-then-is_empty-clause-held c =
     let none : length c.rects.result.now ≡ 0 = (let h = c.if-is_empty.ensures in grind arith) in
     (held-empty c.args.parts.now c.args.roots.now c.args.set.now _ (length c.args.parts.now) (nil_from_length c.args.set.now (rw c.rects.ensures.value at none))
     (c.in_ok-held.ensures.items_if_clones_equal (λ y h. h))).each
+
+pub returns-in_err-held-clause-each : goal.returns-in_err-held-clause-each
+returns-in_err-held-clause-each c = IfOk-from_err _ _ c.from_residual.ensures.0
+
+pub returns-in_err-held-clause-held : goal.returns-in_err-held-clause-held
+returns-in_err-held-clause-held c = IfOk-from_err _ _ c.from_residual.ensures.0
+
+pub returns-in_err-tree-clause-each : goal.returns-in_err-tree-clause-each
+returns-in_err-tree-clause-each c = IfOk-from_err _ _ c.from_residual-in_err-tree.ensures.0
+
+pub returns-in_err-tree-clause-held : goal.returns-in_err-tree-clause-held
+returns-in_err-tree-clause-held c = IfOk-from_err _ _ c.from_residual-in_err-tree.ensures.0
