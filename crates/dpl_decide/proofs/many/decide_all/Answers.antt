@@ -1,5 +1,5 @@
 use Rattle.std.proofs.Common.{option_map}
-use Rattle.std.proofs.lemmas.Result.{IfOk-weaker}
+use Rattle.std.proofs.lemmas.Result.{IfOk-from_err, IfOk-weaker}
 use Rattle.dpl_decide.proofs.Layers.{layers_decided}
 use Rattle.dpl_decide.proofs.many.decide_all.Goals as goal
 
@@ -11,3 +11,15 @@ returns g c =
     (λ ds from. layers_decided (option_map (λ t. t.now) order.top) order.datatype order.spacing order.overlap c.args.bytes.items c.requires.size
     order.layers.now c.in_ok-choices.choices.items c.in_ok-layers.layers.items ds.items c.in_ok-choices.ensures read from)
     (c.all_answered.ensures c.in_ok-layers.layers.items c.in_ok-waiting.ensures)
+
+pub returns-in_err-choices : goal.returns-in_err-choices
+returns-in_err-choices g c = IfOk-from_err _ _ c.from_residual.ensures.0
+
+pub returns-in_err-layers : goal.returns-in_err-layers
+returns-in_err-layers g c = IfOk-from_err _ _ c.from_residual-in_err-layers.ensures.0
+
+pub returns-in_err-waiting : goal.returns-in_err-waiting
+returns-in_err-waiting g c = IfOk-from_err _ _ c.from_residual-in_err-waiting.ensures.0
+
+pub returns-in_err-conflicts : goal.returns-in_err-conflicts
+returns-in_err-conflicts g c = IfOk-from_err _ _ c.from_residual-in_err-conflicts.ensures.0

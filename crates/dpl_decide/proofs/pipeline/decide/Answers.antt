@@ -1,4 +1,5 @@
 use Rattle.std.proofs.Common.{subst}
+use Rattle.std.proofs.lemmas.Result.{IfOk-from_err}
 use Rattle.dpl_layer.specs.View.{IsMarkedFault, marked_choice_view}
 use Rattle.dpl_layer.specs.declared.fault.LayerFault.{LayerFault}
 use Rattle.dpl_answer.specs.View.{flat_view}
@@ -19,3 +20,9 @@ returns-clause-decision g c =
     let layer = c.in-Ok.layer in
     answered order.recipe.fewer (marked_choice_view order.choice) order.recipe.spacing order.recipe.overlap c.args.bytes.items layer.copied.items layer.slabs layer.mark_a layer.mark_b
     (flat_view c.in_ok-answer.answer) c.requires.size c.in-Ok.ensures.layer (rw c.marks_by-marks.ensures at c.in_ok-answer.ensures.flat)
+
+pub returns-in_err-answer-clause-decision : goal.returns-in_err-answer-clause-decision
+returns-in_err-answer-clause-decision g c = IfOk-from_err _ _ c.from_residual.ensures.0
+
+pub returns-in_err-answer-clause-fits : goal.returns-in_err-answer-clause-fits
+returns-in_err-answer-clause-fits g c = IfOk-from_err _ _ c.from_residual.ensures.0

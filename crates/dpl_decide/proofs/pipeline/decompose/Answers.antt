@@ -1,6 +1,6 @@
 use Rattle.std.proofs.Common.{Global, List, Option, sym, subst, ℕ}
 use Rattle.std.specs.Prelude.{IfSome, Vec}
-use Rattle.std.proofs.lemmas.Result.{IfOk-weaker}
+use Rattle.std.proofs.lemmas.Result.{IfOk-from_err, IfOk-weaker}
 use Rattle.std.specs.Option.{option_copied}
 use Rattle.dpl_spec_split.specs.Cycle.{IsReported}
 use Rattle.dpl_spec_split.specs.Graphs.{IsOddCycle}
@@ -36,3 +36,27 @@ returns-clause-flat g c =
     let (features, many, is) = c.in_ok-cut.ensures.cut (marks_in (option_copied c.args.marks)) c.in_ok-marked.ensures in
     IfOk-weaker c.answer_of.result _ _
     (λ d (pieces, completed, flat). (cut_view features pieces, is pieces completed, flat features many)) c.answer_of.ensures.flat
+
+pub returns-in_err-marked-clause-flat : goal.returns-in_err-marked-clause-flat
+returns-in_err-marked-clause-flat g c = IfOk-from_err _ _ c.from_residual.ensures.0
+
+pub returns-in_err-marked-clause-fits : goal.returns-in_err-marked-clause-fits
+returns-in_err-marked-clause-fits g c = IfOk-from_err _ _ c.from_residual.ensures.0
+
+pub returns-in_err-cut-clause-flat : goal.returns-in_err-cut-clause-flat
+returns-in_err-cut-clause-flat g c = IfOk-from_err _ _ c.from_residual-in_err-cut.ensures.0
+
+pub returns-in_err-cut-clause-fits : goal.returns-in_err-cut-clause-fits
+returns-in_err-cut-clause-fits g c = IfOk-from_err _ _ c.from_residual-in_err-cut.ensures.0
+
+pub returns-in_err-crowded-clause-flat : goal.returns-in_err-crowded-clause-flat
+returns-in_err-crowded-clause-flat g c = IfOk-from_err _ _ c.from_residual-in_err-crowded.ensures.0
+
+pub returns-in_err-crowded-clause-fits : goal.returns-in_err-crowded-clause-fits
+returns-in_err-crowded-clause-fits g c = IfOk-from_err _ _ c.from_residual-in_err-crowded.ensures.0
+
+pub returns-in_err-conflicts-clause-flat : goal.returns-in_err-conflicts-clause-flat
+returns-in_err-conflicts-clause-flat g c = IfOk-from_err _ _ c.from_residual-in_err-conflicts.ensures.0
+
+pub returns-in_err-conflicts-clause-fits : goal.returns-in_err-conflicts-clause-fits
+returns-in_err-conflicts-clause-fits g c = IfOk-from_err _ _ c.from_residual-in_err-conflicts.ensures.0
