@@ -68,3 +68,52 @@ returns c =
     )
     (least-near c.args.spacing c.args.r.now c.args.other.now c.in_ok-x.x c.in_ok-y.y _ c.in_ok-rows.rows _ c.in_ok-columns.columns c.requires.corner sides
     c.in_ok-rows.ensures.some row gaps c.in_ok-columns.ensures.some column)
+
+pub span_gap-across-requires-clause-some_a : goal.span_gap-across-requires-clause-some_a
+span_gap-across-requires-clause-some_a c =
+    let low : FitsSigned w32 c.args.r.now.x0 = search rules in
+    let high : FitsSigned w32 c.args.r.now.x1 = search rules in
+    rw (to_z-of_z w32 c.args.r.now.x0 low, to_z-of_z w32 c.args.r.now.x1 high) c.requires.solid.wide
+
+pub span_gap-across-requires-clause-some_b : goal.span_gap-across-requires-clause-some_b
+span_gap-across-requires-clause-some_b c =
+    let low : FitsSigned w32 c.args.other.now.x0 = search rules in
+    let high : FitsSigned w32 c.args.other.now.x1 = search rules in
+    rw (to_z-of_z w32 c.args.other.now.x0 low, to_z-of_z w32 c.args.other.now.x1 high) c.requires.other.wide
+
+pub first_within-requires-clause-some_a : goal.first_within-requires-clause-some_a
+first_within-requires-clause-some_a c =
+    let low : FitsSigned w32 c.args.r.now.y0 = search rules in
+    let high : FitsSigned w32 c.args.r.now.y1 = search rules in
+    rw (to_z-of_z w32 c.args.r.now.y0 low, to_z-of_z w32 c.args.r.now.y1 high) c.requires.solid.tall
+
+pub first_within-requires-clause-some_b : goal.first_within-requires-clause-some_b
+first_within-requires-clause-some_b c =
+    let low : FitsSigned w32 c.args.other.now.y0 = search rules in
+    let high : FitsSigned w32 c.args.other.now.y1 = search rules in
+    rw (to_z-of_z w32 c.args.other.now.y0 low, to_z-of_z w32 c.args.other.now.y1 high) c.requires.other.tall
+
+pub span_gap-up-requires-clause-some_b : goal.span_gap-up-requires-clause-some_b
+span_gap-up-requires-clause-some_b c =
+    let low : FitsSigned w32 c.args.other.now.y0 = search rules in
+    let high : FitsSigned w32 c.args.other.now.y1 = search rules in
+    rw (to_z-of_z w32 c.args.other.now.y0 low, to_z-of_z w32 c.args.other.now.y1 high) c.requires.other.tall
+
+pub first_within-requires-2-clause-some_a : goal.first_within-requires-2-clause-some_a
+first_within-requires-2-clause-some_a c =
+    let low : FitsSigned w32 c.args.r.now.x0 = search rules in
+    let high : FitsSigned w32 c.args.r.now.x1 = search rules in
+    rw (to_z-of_z w32 c.args.r.now.x0 low, to_z-of_z w32 c.args.r.now.x1 high) c.requires.solid.wide
+
+pub first_within-requires-2-clause-some_b : goal.first_within-requires-2-clause-some_b
+first_within-requires-2-clause-some_b c =
+    let low : FitsSigned w32 c.args.other.now.x0 = search rules in
+    let high : FitsSigned w32 c.args.other.now.x1 = search rules in
+    rw (to_z-of_z w32 c.args.other.now.x0 low, to_z-of_z w32 c.args.other.now.x1 high) c.requires.other.wide
+
+pub overflow_add-y : goal.overflow_add-y
+overflow_add-y c =
+    let f : FitsIn32Bits c.args.r.now = record { left = search rules; right = search rules; low = search rules; high = search rules } in
+    let g : FitsIn32Bits c.args.other.now = record { left = search rules; right = search rules; low = search rules; high = search rules } in
+    let row = row-as c.args.r.now c.args.other.now c.in_ok-rows.rows (Some c.in_ok-y.y) f g c.in_ok-y.ensures in
+    rw (to_z-of_z w32 c.in_ok-y.y (row-fits c.args.r.now c.in_ok-y.y f row.0)) (next-fits c.args.r.now c.in_ok-y.y f row.0)
