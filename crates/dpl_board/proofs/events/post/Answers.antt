@@ -1,4 +1,5 @@
 use Rattle.std.proofs.Common.{◌<◌, length, sym, ◌∙◌}
+use Rattle.std.proofs.lemmas.Result.{err_from_is_err_and}
 use Rattle.dpl_board.specs.Sheets.{entry}
 use Rattle.dpl_board.proofs.Posters.{some-from}
 use Rattle.dpl_board.proofs.Goings.{posts-known, posts-new, posts-past}
@@ -28,3 +29,6 @@ returns-in-Err-Twice g c = λ entries has. (
     let (by, same) = rw c.in-Err-Twice.field-0-is at c.in-Err-Twice.ensures in
     rw same (posts-known (g.J.Job.sheet c.args.job.now) entries (entry c.args.worker c.args.tile) c.args.board.now has c.in-Err-Twice.field-0-0 below by)
     )
+
+pub returns-in_err-sum : goal.returns-in_err-sum
+returns-in_err-sum g c = rw (err_from_is_err_and c.from_residual.result c.from_residual.ensures.1).1 tt

@@ -1,4 +1,5 @@
 use Rattle.std.proofs.Common.{take, arith, sym, ◌∙◌}
+use Rattle.std.proofs.lemmas.Result.{IfOk-from_err}
 use Rattle.std.proofs.lemmas.List.{take_all, take_at, take_more}
 use Rattle.std.proofs.lemmas.Grind.{common_steps}
 use Rattle.dpl_board.specs.declared.events.Event.TheVariants.{Take}
@@ -29,3 +30,12 @@ step-requires g c = record {
 
 pub returns : goal.returns
 returns g c = rw c.of.ensures (rw (take_all c.loop-event.event-index c.args.events.now c.loop-event-test.false) at c.loop-event.invariant)
+
+pub returns-in_err-taken : goal.returns-in_err-taken
+returns-in_err-taken g c = IfOk-from_err _ _ c.from_residual.ensures.0
+
+pub returns-in_err-board : goal.returns-in_err-board
+returns-in_err-board g c = IfOk-from_err _ _ c.from_residual-in_err-board.ensures.0
+
+pub returns-in_err-step : goal.returns-in_err-step
+returns-in_err-step g c = IfOk-from_err _ _ c.from_residual-in_err-step.ensures.0

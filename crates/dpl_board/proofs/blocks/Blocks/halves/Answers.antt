@@ -1,4 +1,5 @@
 use Rattle.std.proofs.Common.{◌≡◌, ◌∙◌, ℕ, ap, arith, get_or, sym}
+use Rattle.std.proofs.lemmas.Result.{IfOk-from_err}
 use Rattle.std.proofs.lemmas.List.{get_or_default}
 use Rattle.dpl_stars.specs.declared.joined.Joined.TheVariants.{Odd}
 use Rattle.dpl_board.specs.Blocks.{IsHalved, first_in, middle_in}
@@ -56,3 +57,9 @@ returns c =
     get_or_default S (middle_in block) Odd c.index-2.result.now (omega (arith, m, s))
     ∙ (ap (λ (n : ℕ). get_or S n c.index-2.result.now) (sym c.middle_of.ensures) ∙ (sym c.index-2.ensures ∙ sym c.in_ok-right.ensures)) in
     rw (← c.self.view_is) (keeps-halves b.posts.tiles b.posts.history.items (blocks_of b.kept.starts.items) S block c.in_ok-left.left c.in_ok-right.right halved left right)
+
+pub returns-in_err-left : goal.returns-in_err-left
+returns-in_err-left c = IfOk-from_err _ _ c.from_residual.ensures.0
+
+pub returns-in_err-right : goal.returns-in_err-right
+returns-in_err-right c = IfOk-from_err _ _ c.from_residual-in_err-right.ensures.0
