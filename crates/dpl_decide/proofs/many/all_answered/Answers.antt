@@ -1,4 +1,5 @@
 use Rattle.std.proofs.Common.{◌≡◌, ◌∷◌, length, rules}
+use Rattle.std.proofs.lemmas.Result.{IfOk-from_err}
 use Rattle.std.specs.Vec.Iter.{into_iter_items}
 use Rattle.std.proofs.lemmas.List.Elements.{All-push}
 use Rattle.dpl_decide.specs.View.{FitsDecision}
@@ -49,3 +50,12 @@ pub returns : goal.returns
 returns g c = λ layers waits.
     (let none : length c.loop-layer.layer-iterator.rest.items ≡ 0 = search rules in
     all_met c.args.spacing c.args.overlap layers _ _ (rw (none_of _ none) at (c.loop-layer.invariant.halfway layers waits)) c.loop-layer.invariant.fits)
+
+pub returns-in_err-push-in-Refused : goal.returns-in_err-push-in-Refused
+returns-in_err-push-in-Refused g c = λ _ _. IfOk-from_err _ _ c.from_residual.ensures.0
+
+pub returns-in_err-answer-in-Cut : goal.returns-in_err-answer-in-Cut
+returns-in_err-answer-in-Cut g c = λ _ _. IfOk-from_err _ _ c.from_residual-in_err-answer-in-Cut.ensures.0
+
+pub returns-in_err-push-in-Cut : goal.returns-in_err-push-in-Cut
+returns-in_err-push-in-Cut g c = λ _ _. IfOk-from_err _ _ c.from_residual-in_err-push-in-Cut.ensures.0
