@@ -1,5 +1,6 @@
 use Rattle.std.proofs.Common.{◌≡◌, ◌∷◌, [], ◌++◌, take, refl, arith}
 use Rattle.std.proofs.lemmas.List.{map_push, take_all}
+use Rattle.std.proofs.lemmas.Result.{IfOk-from_err}
 use Rattle.dpl_piece.proofs.Bars.{alone, bars-broken, bars-none, bars-step}
 use Rattle.dpl_piece.proofs.bar.bar_parts.Goals as goal
 
@@ -21,3 +22,18 @@ returns c =
     let all : take c.loop-hole.hole-index c.args.holes.now ≡ c.args.holes.now = take_all c.loop-hole.hole-index c.args.holes.now (omega (arith, c.loop-hole-test.false)) in
     rw (c.in_ok-push-2.ensures.items, at.parts, c.in_ok-part-2.ensures, ← map_push alone at.done c.loop-hole.rest)
     (bars-broken c.args.bar.now c.args.holes.now at.done c.loop-hole.rest (rw all at at.bars))
+
+pub returns-in_err-parts : goal.returns-in_err-parts
+returns-in_err-parts c = IfOk-from_err _ _ c.from_residual.ensures.0
+
+pub returns-in_err-part : goal.returns-in_err-part
+returns-in_err-part c = IfOk-from_err _ _ c.from_residual-in_err-part.ensures.0
+
+pub returns-in_err-push : goal.returns-in_err-push
+returns-in_err-push c = IfOk-from_err _ _ c.from_residual-in_err-push.ensures.0
+
+pub returns-in_err-part-2 : goal.returns-in_err-part-2
+returns-in_err-part-2 c = IfOk-from_err _ _ c.from_residual-in_err-part-2.ensures.0
+
+pub returns-in_err-push-2 : goal.returns-in_err-push-2
+returns-in_err-push-2 c = IfOk-from_err _ _ c.from_residual-in_err-push-2.ensures.0

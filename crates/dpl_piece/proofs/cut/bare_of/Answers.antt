@@ -1,3 +1,4 @@
+use Rattle.std.proofs.lemmas.Result.{IfOk-from_err}
 use Rattle.dpl_sides.specs.Corners.{StandBeside}
 use Rattle.dpl_sides.specs.Pieces.{parts_in}
 use Rattle.dpl_piece.specs.Pieces.{AreCut}
@@ -42,3 +43,21 @@ returns-clause-stand c =
 
 pub pieces_of-requires-clause-made : goal.pieces_of-requires-clause-made
 pieces_of-requires-clause-made c = rw (c.into_vec.ensures.value, c.deref.ensures.value) c.requires.made
+
+pub returns-in_err-cut-clause-zones : goal.returns-in_err-cut-clause-zones
+returns-in_err-cut-clause-zones c = IfOk-from_err _ _ c.from_residual.ensures.0
+
+pub returns-in_err-cut-clause-pieces : goal.returns-in_err-cut-clause-pieces
+returns-in_err-cut-clause-pieces c = IfOk-from_err _ _ c.from_residual.ensures.0
+
+pub returns-in_err-cut-clause-stand : goal.returns-in_err-cut-clause-stand
+returns-in_err-cut-clause-stand c = IfOk-from_err _ _ c.from_residual.ensures.0
+
+pub returns-in_err-parts-clause-zones : goal.returns-in_err-parts-clause-zones
+returns-in_err-parts-clause-zones c = IfOk-from_err _ _ c.from_residual-in_err-parts.ensures.0
+
+pub returns-in_err-parts-clause-pieces : goal.returns-in_err-parts-clause-pieces
+returns-in_err-parts-clause-pieces c = IfOk-from_err _ _ c.from_residual-in_err-parts.ensures.0
+
+pub returns-in_err-parts-clause-stand : goal.returns-in_err-parts-clause-stand
+returns-in_err-parts-clause-stand c = IfOk-from_err _ _ c.from_residual-in_err-parts.ensures.0

@@ -1,5 +1,6 @@
 use Rattle.std.proofs.Common.{refl, arith}
 use Rattle.std.proofs.lemmas.List.{reverse-reverse}
+use Rattle.std.proofs.lemmas.Result.{IfOk-from_err}
 use Rattle.dpl_piece.specs.Pieces.{broken_piece}
 use Rattle.dpl_piece.proofs.Taken.{taken-next, taken-all}
 use Rattle.dpl_piece.proofs.made.add_parts.Goals as goal
@@ -13,3 +14,6 @@ loop-part-preserved c =
 
 pub returns : goal.returns
 returns c = taken-all (broken_piece c.args.number) _ _ c.loop-part.parts.items c.loop-part.invariant (omega (arith, c.loop-part.parts.ok.0, c.in_default.ensures.cases.0))
+
+pub returns-in_err-push : goal.returns-in_err-push
+returns-in_err-push c = IfOk-from_err _ _ c.from_residual.ensures.0

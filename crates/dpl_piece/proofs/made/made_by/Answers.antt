@@ -1,6 +1,7 @@
 use Rattle.std.proofs.Common.{◌≡◌, ◌∷◌, IfOk, rules}
 use Rattle.std.specs.List.{All}
 use Rattle.std.proofs.lemmas.List.Elements.{All-append, All-head, All-tail}
+use Rattle.std.proofs.lemmas.Result.{IfOk-from_err}
 use Rattle.dpl_piece.specs.Made.{IsMade}
 use Rattle.dpl_piece.proofs.MadeLaws.{All-reverse}
 use Rattle.dpl_piece.proofs.made.made_by.Goals as goal
@@ -21,3 +22,12 @@ loop-list-preserved g c =
 
 pub returns : goal.returns
 returns g c = rw c.reverse.ensures.items (All-reverse (IsMade c.args.features.now c.args.zones.now) c.loop-list.made.items c.loop-list.invariant.made)
+
+pub returns-in_err-lists : goal.returns-in_err-lists
+returns-in_err-lists g c = IfOk-from_err _ _ c.from_residual.ensures.0
+
+pub returns-in_err-list : goal.returns-in_err-list
+returns-in_err-list g c = IfOk-from_err _ _ c.from_residual-in_err-list.ensures.0
+
+pub returns-in_err-append : goal.returns-in_err-append
+returns-in_err-append g c = IfOk-from_err _ _ c.from_residual-in_err-append.ensures.0

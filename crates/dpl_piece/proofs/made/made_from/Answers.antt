@@ -1,6 +1,7 @@
 use Rattle.std.proofs.Common.{◌≡◌, ◌+◌, ◌<◌, List, [], length, get_or, map, take, ◌∙◌, arith, rules}
 use Rattle.std.proofs.lemmas.List.{get_or_default}
 use Rattle.std.proofs.lemmas.List.Elements.{All-push}
+use Rattle.std.proofs.lemmas.Result.{IfOk-from_err}
 use Rattle.dpl_spec_split.specs.declared.Rect.{Rect}
 use Rattle.dpl_piece.specs.Made.{IsMade}
 use Rattle.dpl_sides.specs.Pieces.{rect_at}
@@ -67,3 +68,9 @@ loop-rest-preserved g c =
             (zones-after c.args.zones.now at.rest.now c.feature_of-feature.result c.own_count.result from c.own_count.ensures.own c.own_count.ensures.next),
       );
     }
+
+pub returns-in_err-next : goal.returns-in_err-next
+returns-in_err-next g c = IfOk-from_err _ _ c.from_residual.ensures.0
+
+pub returns-in_err-push : goal.returns-in_err-push
+returns-in_err-push g c = IfOk-from_err _ _ c.from_residual-in_err-push.ensures.0

@@ -1,5 +1,6 @@
 use Rattle.std.proofs.Common.{◌≡◌, ◌∙◌, ◌++◌, List, map, sym, ap, subst}
 use Rattle.std.proofs.lemmas.List.{length-map}
+use Rattle.std.proofs.lemmas.Result.{IfOk-from_err}
 use Rattle.dpl_spec_split.specs.declared.Rect.{Rect}
 use Rattle.dpl_spec_split.specs.declared.Zone.{Zone}
 use Rattle.dpl_sides.specs.declared.standing.Side.TheVariants.{Before, After}
@@ -35,3 +36,75 @@ returns-clause-breaks g c =
       seconds = subst (λ l. AreSidesOf (StandsAfterFrom parts 0) zones l (sides_in After c.in_ok-with_sides.field-0.items)) own
           (rw (c.in_ok-with_sides.ensures.seconds, c.deref-5.ensures.value) (sides-of (StandsAfterFrom parts 0) zones c.args.own.now seconds.old _ (seconds.each ∙ each) seconds.are));
     }
+
+pub returns-in_err-holes_at-clause-feature : goal.returns-in_err-holes_at-clause-feature
+returns-in_err-holes_at-clause-feature g c = IfOk-from_err _ _ c.from_residual.ensures.0
+
+pub returns-in_err-holes_at-clause-own : goal.returns-in_err-holes_at-clause-own
+returns-in_err-holes_at-clause-own g c = IfOk-from_err _ _ c.from_residual.ensures.0
+
+pub returns-in_err-holes_at-clause-breaks : goal.returns-in_err-holes_at-clause-breaks
+returns-in_err-holes_at-clause-breaks g c = IfOk-from_err _ _ c.from_residual.ensures.0
+
+pub returns-in_err-parts-clause-feature : goal.returns-in_err-parts-clause-feature
+returns-in_err-parts-clause-feature g c = IfOk-from_err _ _ c.from_residual-in_err-parts.ensures.0
+
+pub returns-in_err-parts-clause-own : goal.returns-in_err-parts-clause-own
+returns-in_err-parts-clause-own g c = IfOk-from_err _ _ c.from_residual-in_err-parts.ensures.0
+
+pub returns-in_err-parts-clause-breaks : goal.returns-in_err-parts-clause-breaks
+returns-in_err-parts-clause-breaks g c = IfOk-from_err _ _ c.from_residual-in_err-parts.ensures.0
+
+pub returns-in_err-pieces-clause-feature : goal.returns-in_err-pieces-clause-feature
+returns-in_err-pieces-clause-feature g c = IfOk-from_err _ _ c.from_residual-in_err-pieces.ensures.0
+
+pub returns-in_err-pieces-clause-own : goal.returns-in_err-pieces-clause-own
+returns-in_err-pieces-clause-own g c = IfOk-from_err _ _ c.from_residual-in_err-pieces.ensures.0
+
+pub returns-in_err-pieces-clause-breaks : goal.returns-in_err-pieces-clause-breaks
+returns-in_err-pieces-clause-breaks g c = IfOk-from_err _ _ c.from_residual-in_err-pieces.ensures.0
+
+pub returns-in_err-add_parts-clause-feature : goal.returns-in_err-add_parts-clause-feature
+returns-in_err-add_parts-clause-feature g c = IfOk-from_err _ _ c.from_residual-in_err-add_parts.ensures.0
+
+pub returns-in_err-add_parts-clause-own : goal.returns-in_err-add_parts-clause-own
+returns-in_err-add_parts-clause-own g c = IfOk-from_err _ _ c.from_residual-in_err-add_parts.ensures.0
+
+pub returns-in_err-add_parts-clause-breaks : goal.returns-in_err-add_parts-clause-breaks
+returns-in_err-add_parts-clause-breaks g c = IfOk-from_err _ _ c.from_residual-in_err-add_parts.ensures.0
+
+pub returns-in_err-own_zones-clause-feature : goal.returns-in_err-own_zones-clause-feature
+returns-in_err-own_zones-clause-feature g c = IfOk-from_err _ _ c.from_residual-in_err-own_zones.ensures.0
+
+pub returns-in_err-own_zones-clause-own : goal.returns-in_err-own_zones-clause-own
+returns-in_err-own_zones-clause-own g c = IfOk-from_err _ _ c.from_residual-in_err-own_zones.ensures.0
+
+pub returns-in_err-own_zones-clause-breaks : goal.returns-in_err-own_zones-clause-breaks
+returns-in_err-own_zones-clause-breaks g c = IfOk-from_err _ _ c.from_residual-in_err-own_zones.ensures.0
+
+pub returns-in_err-numbers-clause-feature : goal.returns-in_err-numbers-clause-feature
+returns-in_err-numbers-clause-feature g c = IfOk-from_err _ _ c.from_residual-in_err-numbers.ensures.0
+
+pub returns-in_err-numbers-clause-own : goal.returns-in_err-numbers-clause-own
+returns-in_err-numbers-clause-own g c = IfOk-from_err _ _ c.from_residual-in_err-numbers.ensures.0
+
+pub returns-in_err-numbers-clause-breaks : goal.returns-in_err-numbers-clause-breaks
+returns-in_err-numbers-clause-breaks g c = IfOk-from_err _ _ c.from_residual-in_err-numbers.ensures.0
+
+pub returns-in_err-noted-clause-feature : goal.returns-in_err-noted-clause-feature
+returns-in_err-noted-clause-feature g c = IfOk-from_err _ _ c.from_residual-in_err-noted.ensures.0
+
+pub returns-in_err-noted-clause-own : goal.returns-in_err-noted-clause-own
+returns-in_err-noted-clause-own g c = IfOk-from_err _ _ c.from_residual-in_err-noted.ensures.0
+
+pub returns-in_err-noted-clause-breaks : goal.returns-in_err-noted-clause-breaks
+returns-in_err-noted-clause-breaks g c = IfOk-from_err _ _ c.from_residual-in_err-noted.ensures.0
+
+pub returns-in_err-with_sides-clause-feature : goal.returns-in_err-with_sides-clause-feature
+returns-in_err-with_sides-clause-feature g c = IfOk-from_err _ _ c.from_residual-in_err-with_sides.ensures.0
+
+pub returns-in_err-with_sides-clause-own : goal.returns-in_err-with_sides-clause-own
+returns-in_err-with_sides-clause-own g c = IfOk-from_err _ _ c.from_residual-in_err-with_sides.ensures.0
+
+pub returns-in_err-with_sides-clause-breaks : goal.returns-in_err-with_sides-clause-breaks
+returns-in_err-with_sides-clause-breaks g c = IfOk-from_err _ _ c.from_residual-in_err-with_sides.ensures.0

@@ -1,5 +1,6 @@
 use Rattle.std.proofs.Common.{refl, arith}
 use Rattle.std.proofs.lemmas.List.{reverse-reverse}
+use Rattle.std.proofs.lemmas.Result.{IfOk-from_err}
 use Rattle.dpl_piece.proofs.Taken.{taken-next, taken-all}
 use Rattle.dpl_piece.proofs.piece.lists_of.Goals as goal
 
@@ -21,3 +22,27 @@ returns-clause-parts c = taken-all (λ x. x.part) _ _ c.loop-piece.pieces.items 
 pub returns-clause-owners : goal.returns-clause-owners
 returns-clause-owners c = taken-all (λ x. x.owner) _ _ c.loop-piece.pieces.items c.loop-piece.invariant.owners
     (omega (arith, c.loop-piece.pieces.ok.0, c.in_default.ensures.cases.0))
+
+pub returns-in_err-parts-clause-parts : goal.returns-in_err-parts-clause-parts
+returns-in_err-parts-clause-parts c = IfOk-from_err _ _ c.from_residual.ensures.0
+
+pub returns-in_err-parts-clause-owners : goal.returns-in_err-parts-clause-owners
+returns-in_err-parts-clause-owners c = IfOk-from_err _ _ c.from_residual.ensures.0
+
+pub returns-in_err-owners-clause-parts : goal.returns-in_err-owners-clause-parts
+returns-in_err-owners-clause-parts c = IfOk-from_err _ _ c.from_residual-in_err-owners.ensures.0
+
+pub returns-in_err-owners-clause-owners : goal.returns-in_err-owners-clause-owners
+returns-in_err-owners-clause-owners c = IfOk-from_err _ _ c.from_residual-in_err-owners.ensures.0
+
+pub returns-in_err-push-clause-parts : goal.returns-in_err-push-clause-parts
+returns-in_err-push-clause-parts c = IfOk-from_err _ _ c.from_residual-in_err-push.ensures.0
+
+pub returns-in_err-push-clause-owners : goal.returns-in_err-push-clause-owners
+returns-in_err-push-clause-owners c = IfOk-from_err _ _ c.from_residual-in_err-push.ensures.0
+
+pub returns-in_err-push-2-clause-parts : goal.returns-in_err-push-2-clause-parts
+returns-in_err-push-2-clause-parts c = IfOk-from_err _ _ c.from_residual-in_err-push-2.ensures.0
+
+pub returns-in_err-push-2-clause-owners : goal.returns-in_err-push-2-clause-owners
+returns-in_err-push-2-clause-owners c = IfOk-from_err _ _ c.from_residual-in_err-push-2.ensures.0

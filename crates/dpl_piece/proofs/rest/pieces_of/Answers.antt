@@ -3,6 +3,7 @@ use Rattle.std.specs.List.{All}
 use Rattle.std.specs.Vec.Iter.{into_iter_items}
 use Rattle.std.proofs.lemmas.List.{length-append, length-map}
 use Rattle.std.proofs.lemmas.List.Elements.{All-contains}
+use Rattle.std.proofs.lemmas.Result.{IfOk-from_err}
 use Rattle.dpl_spec_split.specs.declared.Rect.{Rect}
 use Rattle.dpl_spec_split.specs.declared.Zone.{Zone}
 use Rattle.dpl_piece.specs.declared.made.Made.{Made}
@@ -191,3 +192,66 @@ returns c =
       wholes = rw all at at.invariant.wholes;
       sides = sorted-sides c.args.zones.now at.number at.pieces.items _ at.noted.firsts.items at.noted.seconds.items _ at.invariant.sides below sorted;
     }
+
+pub returns-in_err-pieces-clause-cut : goal.returns-in_err-pieces-clause-cut
+returns-in_err-pieces-clause-cut c = IfOk-from_err _ _ c.from_residual.ensures.0
+
+pub returns-in_err-pieces-clause-wholes : goal.returns-in_err-pieces-clause-wholes
+returns-in_err-pieces-clause-wholes c = IfOk-from_err _ _ c.from_residual.ensures.0
+
+pub returns-in_err-pieces-clause-sides : goal.returns-in_err-pieces-clause-sides
+returns-in_err-pieces-clause-sides c = IfOk-from_err _ _ c.from_residual.ensures.0
+
+pub returns-in_err-noted-clause-cut : goal.returns-in_err-noted-clause-cut
+returns-in_err-noted-clause-cut c = IfOk-from_err _ _ c.from_residual-in_err-noted.ensures.0
+
+pub returns-in_err-noted-clause-wholes : goal.returns-in_err-noted-clause-wholes
+returns-in_err-noted-clause-wholes c = IfOk-from_err _ _ c.from_residual-in_err-noted.ensures.0
+
+pub returns-in_err-noted-clause-sides : goal.returns-in_err-noted-clause-sides
+returns-in_err-noted-clause-sides c = IfOk-from_err _ _ c.from_residual-in_err-noted.ensures.0
+
+pub returns-in_err-add_made-clause-cut : goal.returns-in_err-add_made-clause-cut
+returns-in_err-add_made-clause-cut c = IfOk-from_err _ _ c.from_residual-in_err-add_made.ensures.0
+
+pub returns-in_err-add_made-clause-wholes : goal.returns-in_err-add_made-clause-wholes
+returns-in_err-add_made-clause-wholes c = IfOk-from_err _ _ c.from_residual-in_err-add_made.ensures.0
+
+pub returns-in_err-add_made-clause-sides : goal.returns-in_err-add_made-clause-sides
+returns-in_err-add_made-clause-sides c = IfOk-from_err _ _ c.from_residual-in_err-add_made.ensures.0
+
+pub returns-in_err-parts-clause-cut : goal.returns-in_err-parts-clause-cut
+returns-in_err-parts-clause-cut c = IfOk-from_err _ _ c.from_residual-in_err-parts.ensures.0
+
+pub returns-in_err-parts-clause-wholes : goal.returns-in_err-parts-clause-wholes
+returns-in_err-parts-clause-wholes c = IfOk-from_err _ _ c.from_residual-in_err-parts.ensures.0
+
+pub returns-in_err-parts-clause-sides : goal.returns-in_err-parts-clause-sides
+returns-in_err-parts-clause-sides c = IfOk-from_err _ _ c.from_residual-in_err-parts.ensures.0
+
+pub returns-in_err-add_pieces-clause-cut : goal.returns-in_err-add_pieces-clause-cut
+returns-in_err-add_pieces-clause-cut c = IfOk-from_err _ _ c.from_residual-in_err-add_pieces.ensures.0
+
+pub returns-in_err-add_pieces-clause-wholes : goal.returns-in_err-add_pieces-clause-wholes
+returns-in_err-add_pieces-clause-wholes c = IfOk-from_err _ _ c.from_residual-in_err-add_pieces.ensures.0
+
+pub returns-in_err-add_pieces-clause-sides : goal.returns-in_err-add_pieces-clause-sides
+returns-in_err-add_pieces-clause-sides c = IfOk-from_err _ _ c.from_residual-in_err-add_pieces.ensures.0
+
+pub returns-in_err-note_sides-clause-cut : goal.returns-in_err-note_sides-clause-cut
+returns-in_err-note_sides-clause-cut c = IfOk-from_err _ _ c.from_residual-in_err-note_sides.ensures.0
+
+pub returns-in_err-note_sides-clause-wholes : goal.returns-in_err-note_sides-clause-wholes
+returns-in_err-note_sides-clause-wholes c = IfOk-from_err _ _ c.from_residual-in_err-note_sides.ensures.0
+
+pub returns-in_err-note_sides-clause-sides : goal.returns-in_err-note_sides-clause-sides
+returns-in_err-note_sides-clause-sides c = IfOk-from_err _ _ c.from_residual-in_err-note_sides.ensures.0
+
+pub returns-in_err-sides-clause-cut : goal.returns-in_err-sides-clause-cut
+returns-in_err-sides-clause-cut c = IfOk-from_err _ _ c.from_residual-in_err-sides.ensures.0
+
+pub returns-in_err-sides-clause-wholes : goal.returns-in_err-sides-clause-wholes
+returns-in_err-sides-clause-wholes c = IfOk-from_err _ _ c.from_residual-in_err-sides.ensures.0
+
+pub returns-in_err-sides-clause-sides : goal.returns-in_err-sides-clause-sides
+returns-in_err-sides-clause-sides c = IfOk-from_err _ _ c.from_residual-in_err-sides.ensures.0

@@ -1,0 +1,11 @@
+use Rattle.std.proofs.lemmas.Result.{IfOk-from_err}
+use Rattle.dpl_piece.proofs.cut.bare_pieces.Goals as goal
+
+pub returns-in_err-sorted-clause-zones : goal.returns-in_err-sorted-clause-zones
+returns-in_err-sorted-clause-zones c = IfOk-from_err _ _ c.from_residual.ensures.0
+
+pub returns-in_err-sorted-clause-pieces : goal.returns-in_err-sorted-clause-pieces
+returns-in_err-sorted-clause-pieces c = IfOk-from_err _ _ c.from_residual.ensures.0
+
+pub returns-in_err-sorted-clause-stand : goal.returns-in_err-sorted-clause-stand
+returns-in_err-sorted-clause-stand c = IfOk-from_err _ _ c.from_residual.ensures.0
