@@ -9,3 +9,12 @@ returns-in_err-sorted-clause-pieces c = IfOk-from_err _ _ c.from_residual.ensure
 
 pub returns-in_err-sorted-clause-stand : goal.returns-in_err-sorted-clause-stand
 returns-in_err-sorted-clause-stand c = IfOk-from_err _ _ c.from_residual.ensures.0
+
+pub returns-clause-zones : goal.returns-clause-zones
+returns-clause-zones c = c.bare_of.ensures.zones
+
+pub returns-clause-pieces : goal.returns-clause-pieces
+returns-clause-pieces c = c.bare_of.ensures.pieces
+
+pub returns-clause-stand : goal.returns-clause-stand
+returns-clause-stand c = c.bare_of.ensures.stand

@@ -24,3 +24,21 @@ returns-in_err-made-clause-pieces g c = IfOk-from_err _ _ c.from_residual-in_err
 
 pub returns-in_err-made-clause-stand : goal.returns-in_err-made-clause-stand
 returns-in_err-made-clause-stand g c = IfOk-from_err _ _ c.from_residual-in_err-made.ensures.0
+
+pub returns-then-workers-lt2-clause-zones : goal.returns-then-workers-lt2-clause-zones
+returns-then-workers-lt2-clause-zones g c = c.bare_pieces.ensures.zones
+
+pub returns-then-workers-lt2-clause-pieces : goal.returns-then-workers-lt2-clause-pieces
+returns-then-workers-lt2-clause-pieces g c = c.bare_pieces.ensures.pieces
+
+pub returns-then-workers-lt2-clause-stand : goal.returns-then-workers-lt2-clause-stand
+returns-then-workers-lt2-clause-stand g c = c.bare_pieces.ensures.stand
+
+pub returns-clause-zones : goal.returns-clause-zones
+returns-clause-zones g c = c.bare_of.ensures.zones
+
+pub returns-clause-pieces : goal.returns-clause-pieces
+returns-clause-pieces g c = c.bare_of.ensures.pieces
+
+pub returns-clause-stand : goal.returns-clause-stand
+returns-clause-stand g c = c.bare_of.ensures.stand

@@ -74,3 +74,6 @@ returns-in_err-next g c = IfOk-from_err _ _ c.from_residual.ensures.0
 
 pub returns-in_err-push : goal.returns-in_err-push
 returns-in_err-push g c = IfOk-from_err _ _ c.from_residual-in_err-push.ensures.0
+
+pub returns : goal.returns
+returns g c = c.loop-rest.invariant.made

@@ -1,4 +1,4 @@
-use Rattle.std.proofs.Common.{◌≡◌, ◌∙◌, ◌++◌, List, map, sym, ap, subst}
+use Rattle.std.proofs.Common.{◌≡◌, ◌∙◌, ◌++◌, List, map, refl, sym, ap, subst}
 use Rattle.std.proofs.lemmas.List.{length-map}
 use Rattle.std.proofs.lemmas.Result.{IfOk-from_err}
 use Rattle.dpl_spec_split.specs.declared.Rect.{Rect}
@@ -108,3 +108,15 @@ returns-in_err-with_sides-clause-own g c = IfOk-from_err _ _ c.from_residual-in_
 
 pub returns-in_err-with_sides-clause-breaks : goal.returns-in_err-with_sides-clause-breaks
 returns-in_err-with_sides-clause-breaks g c = IfOk-from_err _ _ c.from_residual-in_err-with_sides.ensures.0
+
+pub broken-requires : goal.broken-requires
+broken-requires g c = rw c.in_ok-holes_at.ensures c.requires.within
+
+pub zones_at-requires : goal.zones_at-requires
+zones_at-requires g c = c.requires.known
+
+pub returns-clause-feature : goal.returns-clause-feature
+returns-clause-feature g c = refl
+
+pub returns-clause-own : goal.returns-clause-own
+returns-clause-own g c = c.in_ok-with_sides.ensures.own

@@ -48,3 +48,9 @@ returns-in_err-push-clause-firsts c = IfOk-from_err _ _ c.from_residual-in_err-p
 
 pub returns-in_err-push-clause-seconds : goal.returns-in_err-push-clause-seconds
 returns-in_err-push-clause-seconds c = IfOk-from_err _ _ c.from_residual-in_err-push.ensures.0
+
+pub returns-clause-adds : goal.returns-clause-adds
+returns-clause-adds c = c.in_ok-append.ensures.items
+
+pub returns-clause-keeps : goal.returns-clause-keeps
+returns-clause-keeps c = c.in_ok-push.ensures.items

@@ -255,3 +255,6 @@ returns-in_err-sides-clause-wholes c = IfOk-from_err _ _ c.from_residual-in_err-
 
 pub returns-in_err-sides-clause-sides : goal.returns-in_err-sides-clause-sides
 returns-in_err-sides-clause-sides c = IfOk-from_err _ _ c.from_residual-in_err-sides.ensures.0
+
+pub split_at-requires : goal.split_at-requires
+split_at-requires c = c.own_count.ensures.inside
