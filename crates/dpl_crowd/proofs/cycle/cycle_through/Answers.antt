@@ -1,4 +1,5 @@
 use Rattle.std.proofs.Common.{◌≡◌, ◌++◌, ◌∷◌, ◌∙◌, [], ℕ, List, reverse, ap, length}
+use Rattle.std.proofs.lemmas.Result.{IfOk-from_err}
 use Rattle.dpl_crowd.specs.Crowds.{graph_in}
 use Rattle.dpl_crowd.proofs.ForkLaws.{climb-end, climb-high, climb-start, climb-step}
 use Rattle.dpl_crowd.proofs.cycle.cycle_through.Goals as goal
@@ -26,3 +27,21 @@ returns c =
     c.requires.edge c.loop-top.invariant c.loop-top-test.false
     (all ∙ (ap (λ xs. let ys : List ℕ = xs in ys ++ c.deref.result.now) (reversed ∙ ap reverse pushed)
     ∙ ap (λ ys. reverse (c.loop-top.cycle.items ++ c.loop-top.top ∷ []) ++ ys) rest))
+
+pub returns-in_err-push : goal.returns-in_err-push
+returns-in_err-push c = IfOk-from_err _ _ c.from_residual.ensures.0
+
+pub returns-in_err-push-2 : goal.returns-in_err-push-2
+returns-in_err-push-2 c = IfOk-from_err _ _ c.from_residual-in_err-push-2.ensures.0
+
+pub returns-in_err-top : goal.returns-in_err-top
+returns-in_err-top c = IfOk-from_err _ _ c.from_residual-in_err-top.ensures.0
+
+pub returns-in_err-other : goal.returns-in_err-other
+returns-in_err-other c = IfOk-from_err _ _ c.from_residual-in_err-other.ensures.0
+
+pub returns-in_err-push-3 : goal.returns-in_err-push-3
+returns-in_err-push-3 c = IfOk-from_err _ _ c.from_residual-in_err-push-3.ensures.0
+
+pub returns-in_err-extend_from_slice : goal.returns-in_err-extend_from_slice
+returns-in_err-extend_from_slice c = IfOk-from_err _ _ c.from_residual-in_err-extend_from_slice.ensures.0

@@ -1,6 +1,7 @@
 use Rattle.std.proofs.Common.{◌+◌, arith}
 use Rattle.std.specs.List.{Contains}
 use Rattle.std.proofs.lemmas.List.{get_or_default}
+use Rattle.std.proofs.lemmas.Result.{IfOk-from_err}
 use Rattle.dpl_crowd.proofs.MeetLaws.{IsSame, OfFirst, all-listed, first-more, first-none, meets-as, meets-none, meets-then}
 use Rattle.dpl_crowd.proofs.levels.meet_all.Goals as goal
 
@@ -15,3 +16,6 @@ loop-v-preserved c = meets-then (OfFirst IsSame c.args.found.now c.loop-v.v-inde
 pub returns : goal.returns
 returns c = meets-as (OfFirst IsSame c.args.found.now c.loop-v.v-index) (Contains c.args.found.now) c.args.level _ c.loop-v.levels _ c.loop-v.next.items
     (all-listed c.args.found.now c.loop-v.v-index (omega arith)) c.loop-v.invariant
+
+pub returns-in_err-meet : goal.returns-in_err-meet
+returns-in_err-meet c = IfOk-from_err _ _ c.from_residual.ensures.0

@@ -1,5 +1,6 @@
 use Rattle.std.proofs.Common.{◌+◌, ◌∙◌, ℕ, length, get_or, arith}
 use Rattle.std.proofs.lemmas.List.{get_or_default}
+use Rattle.std.proofs.lemmas.Result.{IfOk-from_err}
 use Rattle.dpl_crowd.specs.Crowds.{graph_in}
 use Rattle.dpl_crowd.specs.Walking.{IsBeside}
 use Rattle.dpl_crowd.proofs.MeetLaws.{Joins, OfFirst, all-beside, first-more, first-none, meets-as, meets-none, meets-then}
@@ -27,3 +28,9 @@ loop-v-preserved c =
 pub returns : goal.returns
 returns c = meets-as (OfFirst (Joins (graph_in c.args.crowd.now)) c.args.front.now c.loop-v.v-index) (IsBeside (graph_in c.args.crowd.now) c.args.front.now) c.args.level
     c.args.levels.now c.loop-v.levels c.args.next.now.items c.loop-v.next.items (all-beside (graph_in c.args.crowd.now) c.args.front.now c.loop-v.v-index (omega arith)) c.loop-v.invariant
+
+pub returns-in_err-found : goal.returns-in_err-found
+returns-in_err-found c = IfOk-from_err _ _ c.from_residual.ensures.0
+
+pub returns-in_err-meet_all : goal.returns-in_err-meet_all
+returns-in_err-meet_all c = IfOk-from_err _ _ c.from_residual-in_err-meet_all.ensures.0

@@ -1,5 +1,6 @@
 use Rattle.std.proofs.Common.{arith}
 use Rattle.std.proofs.lemmas.List.Elements.{Contains-get_or}
+use Rattle.std.proofs.lemmas.Result.{IfOk-from_err}
 use Rattle.dpl_tile.proofs.Loops.{each-all, each-next, each-none}
 use Rattle.dpl_crowd.specs.Crowds.{IsFoeAmong}
 use Rattle.dpl_crowd.proofs.near.add_all_foes.Goals as goal
@@ -16,3 +17,6 @@ loop-r-preserved c = each-next (λ r w. IsFoeAmong c.args.spacing c.args.owners.
 
 pub returns : goal.returns
 returns c = each-all (λ r w. IsFoeAmong c.args.spacing c.args.owners.now c.args.k r c.args.tree.now w) c.args.slabs.now c.loop-r.r-index _ c.loop-r.found.items (omega arith) c.loop-r.invariant
+
+pub returns-in_err-add_foes : goal.returns-in_err-add_foes
+returns-in_err-add_foes c = IfOk-from_err _ _ c.from_residual.ensures.0

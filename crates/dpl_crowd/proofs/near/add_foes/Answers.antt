@@ -1,4 +1,5 @@
 use Rattle.std.proofs.Common.{◌<◌, length}
+use Rattle.std.proofs.lemmas.Result.{IfOk-from_err}
 use Rattle.dpl_crowd.proofs.NearLaws.{foes-all, foes-more, foes-start, item-there}
 use Rattle.dpl_crowd.proofs.near.add_foes.Goals as goal
 
@@ -25,3 +26,6 @@ loop-n-preserved c =
 
 pub returns : goal.returns
 returns c = foes-all c.args.spacing c.args.owners.now c.args.k c.args.r.now c.args.tree.now c.loop-n.n _ c.loop-n.found.items (rw c.count.ensures at c.loop-n-test.false) c.loop-n.invariant
+
+pub returns-in_err-add_item : goal.returns-in_err-add_item
+returns-in_err-add_item c = IfOk-from_err _ _ c.from_residual.ensures.0

@@ -1,4 +1,5 @@
 use Rattle.std.proofs.Common.{◌≡◌, ◌+◌, ℕ, List, length, subst, sym, arith}
+use Rattle.std.proofs.lemmas.Result.{IfOk-from_err}
 use Rattle.dpl_crowd.specs.Crowds.{graph_in}
 use Rattle.dpl_crowd.specs.Walking.{AreLevelsTo, IsBeside, IsFront, Meets}
 use Rattle.dpl_crowd.proofs.LevelLaws.{all-back, front-known, front-next, levels-next}
@@ -34,3 +35,9 @@ returns-clause-front c =
     subst (λ ls. IsFront (c.args.depth + 1) ls c.meet_around.new.next.items) (sym (all-back new old c.args.self.now.levels.len new_len))
     (front-next joined 0 (length c.args.crowd.now.parts) c.args.depth old new front c.new-next.result.items c.meet_around.new.next.items (λ u v e. e.first) c.requires.levels
     c.requires.front met c.requires.deep c.new-next.ensures.items)
+
+pub returns-in_err-meet_around-clause-levels : goal.returns-in_err-meet_around-clause-levels
+returns-in_err-meet_around-clause-levels c = IfOk-from_err _ _ c.from_residual.ensures.0
+
+pub returns-in_err-meet_around-clause-front : goal.returns-in_err-meet_around-clause-front
+returns-in_err-meet_around-clause-front c = IfOk-from_err _ _ c.from_residual.ensures.0

@@ -2,6 +2,7 @@ use Rattle.std.proofs.Common.{◌≡◌, ◌∙◌, [], List, get_or, subst}
 use Rattle.std.proofs.lemmas.List.{get_or_default}
 use Rattle.dpl_spec_split.specs.declared.Rect.{Rect}
 use Rattle.std.specs.List.{Contains}
+use Rattle.std.proofs.lemmas.Result.{IfOk-from_err}
 use Rattle.dpl_tile.specs.Adding.{Adds}
 use Rattle.dpl_crowd.specs.Crowds.{IsFoeAmong}
 use Rattle.dpl_crowd.proofs.NearLaws.{items-known, neighbours-are}
@@ -20,3 +21,6 @@ returns c =
     (subst (λ (rs : List Rect). Adds (λ w. (r : Rect) × Contains rs r × IsFoeAmong c.self.inside.spacing c.self.inside.owners.now c.args.k r c.self.inside.tree w)
     c.new-found.result.items c.add_all_foes.new.found.items)
     slabs c.in_ok-add_all_foes.ensures))
+
+pub returns-in_err-add_all_foes : goal.returns-in_err-add_all_foes
+returns-in_err-add_all_foes c = IfOk-from_err _ _ c.from_residual.ensures.0
