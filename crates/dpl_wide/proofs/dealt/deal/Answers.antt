@@ -1,6 +1,7 @@
 use Rattle.std.proofs.Common.{◌≡◌, ◌++◌, ◌∷◌, [], length, get_or, vec_len, rules, ap, ◌∙◌}
 use Rattle.std.specs.Prelude.{pos}
 use Rattle.std.proofs.lemmas.List.{get_or_default}
+use Rattle.std.proofs.lemmas.Result.{IfOk-from_err}
 use Rattle.dpl_spec_split.specs.declared.Rect.{Rect}
 use Rattle.dpl_feature.proofs.Dealing.{dealt-begun, dealt-read, canonical-read}
 use Rattle.dpl_wide.proofs.dealt.deal.Goals as goal
@@ -33,3 +34,12 @@ returns c =
     dealt-read c.args.rects.now c.args.i c.args.numbers.now c.args.parts.now.items c.requires.canonical c.requires.dealt c.requires.inside
     (get_or c.args.rects.now c.args.i zero_rect) (get_or_default _ _ _ _ c.requires.inside) c.if-parent-i.false
     _ c.index_mut.ensures.value _ c.in_ok-add.ensures.added
+
+pub returns-in_err-part : goal.returns-in_err-part
+returns-in_err-part c = IfOk-from_err _ _ c.from_residual.ensures.0
+
+pub returns-in_err-push : goal.returns-in_err-push
+returns-in_err-push c = IfOk-from_err _ _ c.from_residual-in_err-push.ensures.0
+
+pub returns-in_err-add : goal.returns-in_err-add
+returns-in_err-add c = IfOk-from_err _ _ c.from_residual-in_err-add.ensures.0

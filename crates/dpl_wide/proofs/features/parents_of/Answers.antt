@@ -1,4 +1,5 @@
 use Rattle.std.proofs.Common.{◌≡◌, length, arith}
+use Rattle.std.proofs.lemmas.Result.{IfOk-from_err}
 use Rattle.dpl_wide.proofs.Crossing.{never-odd}
 use Rattle.dpl_wide.proofs.Parents.{parents-more}
 use Rattle.dpl_wide.proofs.Rooting.{parents-met}
@@ -19,3 +20,9 @@ returns c =
     let (edges, pairs, are, sums) = c.requires.sums in
     let all : c.loop-k.k ≡ length c.args.layer.now = rw c.rects-count.ensures.value at (let e : c.loop-k.k ≡ length c.rects-count.result.now = omega (arith, c.loop-k-test.false) in e) in
     parents-met c.args.layer.now c.rects-count.ensures.canonical edges are c.loop-k.parents.items (rw all at c.loop-k.invariant edges pairs are sums)
+
+pub returns-in_err-parents : goal.returns-in_err-parents
+returns-in_err-parents c = IfOk-from_err _ _ c.from_residual.ensures.0
+
+pub returns-in_err-push : goal.returns-in_err-push
+returns-in_err-push c = IfOk-from_err _ _ c.from_residual-in_err-push.ensures.0

@@ -1,4 +1,5 @@
 use Rattle.std.proofs.Common.{◌<◌, ◌++◌, ◌∷◌, [], length, ap, ◌∙◌}
+use Rattle.std.proofs.lemmas.Result.{IfOk-from_err}
 use Rattle.dpl_tile.proofs.Loops.{each-all}
 use Rattle.dpl_wide.specs.Sheets.{IsOwnEdge}
 use Rattle.dpl_wide.proofs.Finding.{sought-first, sought-next}
@@ -16,3 +17,6 @@ loop-n-preserved c =
 
 pub returns : goal.returns
 returns c = each-all (IsOwnEdge c.args.cell.now) c.args.tree.now c.loop-n.n _ c.loop-n.edges.items (rw c.count.ensures at c.loop-n-test.false) c.loop-n.invariant.adds
+
+pub returns-in_err-push : goal.returns-in_err-push
+returns-in_err-push c = IfOk-from_err _ _ c.from_residual.ensures.0

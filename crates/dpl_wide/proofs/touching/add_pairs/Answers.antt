@@ -1,4 +1,5 @@
 use Rattle.std.proofs.Common.{arith}
+use Rattle.std.proofs.lemmas.Result.{IfOk-from_err}
 use Rattle.dpl_tile.proofs.Loops.{each-all, each-next, each-none}
 use Rattle.dpl_wide.specs.Sheets.{IsPairEdge}
 use Rattle.dpl_wide.proofs.touching.add_pairs.Goals as goal
@@ -11,3 +12,6 @@ loop-pair-preserved c = each-next IsPairEdge c.args.pairs.now c.loop-pair.pair-i
 
 pub returns : goal.returns
 returns c = each-all IsPairEdge c.args.pairs.now c.loop-pair.pair-index _ c.loop-pair.edges.items (omega arith) c.loop-pair.invariant
+
+pub returns-in_err-add_pair : goal.returns-in_err-add_pair
+returns-in_err-add_pair c = IfOk-from_err _ _ c.from_residual.ensures.0

@@ -1,4 +1,5 @@
 use Rattle.std.proofs.Common.{◌∙◌, rules}
+use Rattle.std.proofs.lemmas.Result.{IfOk-from_err}
 use Rattle.dpl_spec_split.specs.Squares.{Covers}
 use Rattle.dpl_spec_split.proofs.SideLaws.{some_zones}
 use Rattle.dpl_slabs.specs.Parts.{union_of}
@@ -27,3 +28,21 @@ returns-clause-keys g c = λ p key completed. keys_within c.args.layer c.in_ok-f
     c.in_ok-features.ensures
     c.items.ensures.parts.within
     (c.in_ok-pieces.ensures.pieces p completed)
+
+pub returns-in_err-features-clause-cut : goal.returns-in_err-features-clause-cut
+returns-in_err-features-clause-cut g c = λ marks fixed. IfOk-from_err _ _ c.from_residual.ensures.0
+
+pub returns-in_err-features-clause-keys : goal.returns-in_err-features-clause-keys
+returns-in_err-features-clause-keys g c = IfOk-from_err _ _ c.from_residual.ensures.0
+
+pub returns-in_err-zones-clause-cut : goal.returns-in_err-zones-clause-cut
+returns-in_err-zones-clause-cut g c = λ marks fixed. IfOk-from_err _ _ c.from_residual-in_err-zones.ensures.0
+
+pub returns-in_err-zones-clause-keys : goal.returns-in_err-zones-clause-keys
+returns-in_err-zones-clause-keys g c = IfOk-from_err _ _ c.from_residual-in_err-zones.ensures.0
+
+pub returns-in_err-pieces-clause-cut : goal.returns-in_err-pieces-clause-cut
+returns-in_err-pieces-clause-cut g c = λ marks fixed. IfOk-from_err _ _ c.from_residual-in_err-pieces.ensures.0
+
+pub returns-in_err-pieces-clause-keys : goal.returns-in_err-pieces-clause-keys
+returns-in_err-pieces-clause-keys g c = IfOk-from_err _ _ c.from_residual-in_err-pieces.ensures.0
