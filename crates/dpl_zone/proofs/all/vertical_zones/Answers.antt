@@ -1,3 +1,4 @@
+use Rattle.std.proofs.lemmas.Result.{IfOk-from_err}
 use Rattle.dpl_zone.proofs.OwnedLaws.{sets-within}
 use Rattle.dpl_zone.proofs.all.vertical_zones.Goals as goal
 
@@ -6,3 +7,6 @@ upright_zones-requires-clause-within c = sets-within c.items.result.now _ c.in_o
 
 pub returns : goal.returns
 returns c = c.upright_zones.ensures c.args.parts.now (rw c.items.ensures.value at c.in_ok-slabs.ensures.sets) c.items.ensures.parts.apart
+
+pub returns-in_err-slabs : goal.returns-in_err-slabs
+returns-in_err-slabs c = IfOk-from_err _ _ c.from_residual.ensures.0

@@ -1,3 +1,4 @@
+use Rattle.std.proofs.lemmas.Result.{IfOk-from_err}
 use Rattle.dpl_spec_split.specs.Squares.{Covers}
 use Rattle.dpl_zone.proofs.Corners.{one-per_corner, solid-all, zones-all}
 use Rattle.dpl_zone.proofs.Once.{both-ok}
@@ -30,3 +31,9 @@ returns c =
     both-ok c.unmarked.result _ _ _ c.unmarked.ensures.ordered c.unmarked.ensures.members
     (λ v ordered free. zones-all f.spacing f.overlap c.args.parts.now c.requires.some c.items.ensures.parts.apart _ _ c.in_ok-all.all.items v.items
     (Covers c.args.marked.now) c.sort_zones.ensures.same kept (rw c.deref.ensures.value at c.in_ok-all.ensures.members) ordered free)
+
+pub returns-in_err-kept : goal.returns-in_err-kept
+returns-in_err-kept c = IfOk-from_err _ _ c.from_residual.ensures.0
+
+pub returns-in_err-all : goal.returns-in_err-all
+returns-in_err-all c = IfOk-from_err _ _ c.from_residual-in_err-all.ensures.0

@@ -1,5 +1,6 @@
 use Rattle.std.proofs.Common.{◌≡◌, ◌<◌, length, [], get_or, arith, ◌∙◌}
 use Rattle.std.proofs.lemmas.List.{get_or_default}
+use Rattle.std.proofs.lemmas.Result.{IfOk-from_err}
 use Rattle.dpl_zone.specs.Owned.{transposed_parts}
 use Rattle.dpl_zone.proofs.ColumnLaws.{sets-more, sets-none}
 use Rattle.dpl_zone.proofs.OwnedLaws.{columns-of_part}
@@ -20,3 +21,9 @@ pub returns : goal.returns
 returns c =
     let e : c.loop-k.k ≡ c.args.end = omega arith in
     rw e at c.loop-k.invariant
+
+pub returns-in_err-columns : goal.returns-in_err-columns
+returns-in_err-columns c = IfOk-from_err _ _ c.from_residual.ensures.0
+
+pub returns-in_err-add_owner : goal.returns-in_err-add_owner
+returns-in_err-add_owner c = IfOk-from_err _ _ c.from_residual-in_err-add_owner.ensures.0

@@ -1,5 +1,6 @@
 use Rattle.std.proofs.Common.{◌≡◌, [], get_or, arith, ◌∙◌}
 use Rattle.std.proofs.lemmas.List.{get_or_default}
+use Rattle.std.proofs.lemmas.Result.{IfOk-from_err}
 use Rattle.dpl_zone.proofs.OwnedLaws.{sets-all, sets-more, sets-none, slabs-of_part}
 use Rattle.dpl_zone.proofs.items.slabs_of_parts.Goals as goal
 
@@ -21,3 +22,12 @@ returns-clause-rise c = c.loop-k.invariant.rise
 
 pub returns-clause-order : goal.returns-clause-order
 returns-clause-order c = c.loop-k.invariant.order
+
+pub returns-in_err-add_owner-clause-sets : goal.returns-in_err-add_owner-clause-sets
+returns-in_err-add_owner-clause-sets c = IfOk-from_err _ _ c.from_residual.ensures.0
+
+pub returns-in_err-add_owner-clause-rise : goal.returns-in_err-add_owner-clause-rise
+returns-in_err-add_owner-clause-rise c = IfOk-from_err _ _ c.from_residual.ensures.0
+
+pub returns-in_err-add_owner-clause-order : goal.returns-in_err-add_owner-clause-order
+returns-in_err-add_owner-clause-order c = IfOk-from_err _ _ c.from_residual.ensures.0

@@ -1,4 +1,5 @@
 use Rattle.std.proofs.Common.{refl, arith, rules}
+use Rattle.std.proofs.lemmas.Result.{IfOk-from_err}
 use Rattle.dpl_zone.proofs.Keeping.{kept-all, kept-more, kept-none}
 use Rattle.dpl_zone.proofs.kept.join_few.Goals as goal
 
@@ -14,3 +15,6 @@ loop-z-preserved c =
 
 pub returns : goal.returns
 returns c = kept-all c.args.kept.now.items c.args.flat.now c.args.upright.now c.loop-z.kept.items c.loop-z.z-index (omega arith) c.loop-z.invariant
+
+pub returns-in_err-add_lone : goal.returns-in_err-add_lone
+returns-in_err-add_lone c = IfOk-from_err _ _ c.from_residual.ensures.0

@@ -1,4 +1,5 @@
 use Rattle.std.proofs.Common.{refl, arith, rules}
+use Rattle.std.proofs.lemmas.Result.{IfOk-from_err}
 use Rattle.dpl_zone.proofs.Keeping.{apart-of_list, items-within_list, kept-all, kept-more, kept-none}
 use Rattle.dpl_zone.proofs.kept.join_many.Goals as goal
 
@@ -19,3 +20,9 @@ loop-z-preserved c =
 
 pub returns : goal.returns
 returns c = kept-all c.args.kept.now.items c.args.flat.now c.args.upright.now c.loop-z.kept.items c.loop-z.z-index (omega arith) c.loop-z.invariant
+
+pub returns-in_err-flat_tree : goal.returns-in_err-flat_tree
+returns-in_err-flat_tree c = IfOk-from_err _ _ c.from_residual.ensures.0
+
+pub returns-in_err-add_apart : goal.returns-in_err-add_apart
+returns-in_err-add_apart c = IfOk-from_err _ _ c.from_residual-in_err-add_apart.ensures.0

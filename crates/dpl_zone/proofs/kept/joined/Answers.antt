@@ -1,5 +1,6 @@
 use Rattle.std.proofs.Common.{◌≡◌, length, vec_len, arith, rules}
 use Rattle.std.proofs.lemmas.List.Sorted.{All-permutation}
+use Rattle.std.proofs.lemmas.Result.{IfOk-from_err}
 use Rattle.dpl_zone.proofs.Joining.{IsWithin, joined-sorted}
 use Rattle.dpl_zone.proofs.Keeping.{joined-no_flat, joined-no_upright}
 use Rattle.dpl_zone.proofs.kept.joined.Goals as goal
@@ -23,3 +24,9 @@ returns c =
     rw c.in_ok-append.ensures.items
     (joined-sorted c.args.flat.items c.args.upright.items _ _ c.in_ok-kept.kept.items c.sort_by_feature.ensures.same c.sort_by_feature-2.ensures.same
     (rw (c.deref.ensures.value, c.deref-2.ensures.value) at c.in_ok-kept.ensures))
+
+pub returns-in_err-kept : goal.returns-in_err-kept
+returns-in_err-kept c = IfOk-from_err _ _ c.from_residual.ensures.0
+
+pub returns-in_err-append : goal.returns-in_err-append
+returns-in_err-append c = IfOk-from_err _ _ c.from_residual-in_err-append.ensures.0

@@ -1,5 +1,6 @@
 use Rattle.std.proofs.Common.{refl, arith}
 use Rattle.std.proofs.lemmas.List.Elements.{All-drop, All-take}
+use Rattle.std.proofs.lemmas.Result.{IfOk-from_err}
 use Rattle.dpl_zone.proofs.Joining.{IsWithin, behind-more, behind-none, farther, run-all, run-more, run-none}
 use Rattle.dpl_zone.proofs.kept.kept_upright.Goals as goal
 
@@ -37,3 +38,6 @@ loop-start-smaller c =
 
 pub returns : goal.returns
 returns c = let (within, behind, kept) = c.loop-start.invariant in run-all c.args.flat.now c.args.upright.now c.loop-start.kept.items c.loop-start.start (omega arith) kept
+
+pub returns-in_err-join_run : goal.returns-in_err-join_run
+returns-in_err-join_run c = IfOk-from_err _ _ c.from_residual.ensures.0

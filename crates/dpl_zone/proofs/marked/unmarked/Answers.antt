@@ -1,5 +1,6 @@
 use Rattle.std.proofs.Common.{refl, rules}
 use Rattle.std.proofs.lemmas.Bool.{false≢true}
+use Rattle.std.proofs.lemmas.Result.{IfOk-from_err}
 use Rattle.dpl_spec_split.specs.Squares.{Covers}
 use Rattle.dpl_zone.proofs.MarkedLaws.{dropped-at, unmarked-all, unmarked-more}
 use Rattle.dpl_zone.proofs.marked.unmarked.Goals.{then-not-meets+in_ok-push, else-not-meets}
@@ -19,3 +20,15 @@ pub returns-clause-members : goal.returns-clause-members
 returns-clause-members c =
     unmarked-all (Covers c.args.marked.now) c.args.zones.items c.loop-z.z-index c.loop-z.kept.items
     (rw c.deref-z-items.ensures.value at c.loop-z-test.false) (rw c.deref-z-items.ensures.value at c.loop-z.invariant)
+
+pub returns-in_err-tree-clause-ordered : goal.returns-in_err-tree-clause-ordered
+returns-in_err-tree-clause-ordered c = IfOk-from_err _ _ c.from_residual.ensures.0
+
+pub returns-in_err-tree-clause-members : goal.returns-in_err-tree-clause-members
+returns-in_err-tree-clause-members c = IfOk-from_err _ _ c.from_residual.ensures.0
+
+pub returns-in_err-push-clause-ordered : goal.returns-in_err-push-clause-ordered
+returns-in_err-push-clause-ordered c = IfOk-from_err _ _ c.from_residual-in_err-push.ensures.0
+
+pub returns-in_err-push-clause-members : goal.returns-in_err-push-clause-members
+returns-in_err-push-clause-members c = IfOk-from_err _ _ c.from_residual-in_err-push.ensures.0

@@ -1,5 +1,5 @@
 use Rattle.std.proofs.Common.{◌≡◌, List, subst, sym, ◌∙◌}
-use Rattle.std.proofs.lemmas.Result.{IfOk-weaker}
+use Rattle.std.proofs.lemmas.Result.{IfOk-weaker, IfOk-from_err}
 use Rattle.dpl_join.specs.declared.items.Item.{Item}
 use Rattle.dpl_shade.specs.Items.{AreInOrder, AreOwnedWithin, OwnersRise}
 use Rattle.dpl_shade.specs.Shading.{AreShades}
@@ -48,3 +48,12 @@ returns g c parts sets apart =
     let same : c.deref-4.result.now ≡ c.args.items.items = c.deref-4.ensures.value ∙ (c.into_items-items.ensures ∙ c.in_ok-join.ensures.items) in
     IfOk-weaker c.zones_of_items_by.result _ _ (λ v are. upright-all c.args.spacing c.requires.corner c.args.overlap parts c.args.items.items sets apart c.requires.within v.items
     (rw (same, c.in_ok-shades.ensures.spacing, c.in_ok-shades.ensures.overlap) at are)) c.zones_of_items_by.ensures
+
+pub returns-in_err-join : goal.returns-in_err-join
+returns-in_err-join g c = λ parts sets apart. IfOk-from_err _ _ c.from_residual.ensures.0
+
+pub returns-in_err-shades : goal.returns-in_err-shades
+returns-in_err-shades g c = λ parts sets apart. IfOk-from_err _ _ c.from_residual-in_err-shades.ensures.0
+
+pub returns-in_err-ends : goal.returns-in_err-ends
+returns-in_err-ends g c = λ parts sets apart. IfOk-from_err _ _ c.from_residual-in_err-ends.ensures.0

@@ -1,4 +1,5 @@
 use Rattle.std.proofs.Common.{◌≡◌, arith}
+use Rattle.std.proofs.lemmas.Result.{IfOk-from_err}
 use Rattle.dpl_zone.specs.Ways.{IsItemZone}
 use Rattle.dpl_zone.proofs.SharedLaws.{of-more, of-none}
 use Rattle.dpl_zone.proofs.slab_zones.zones_between.Goals as goal
@@ -40,3 +41,6 @@ pub returns : goal.returns
 returns c =
     let e : c.loop-n.n ≡ c.args.end = omega arith in
     rw e at c.loop-n.invariant.0
+
+pub returns-in_err-add_item : goal.returns-in_err-add_item
+returns-in_err-add_item c = IfOk-from_err _ _ c.from_residual.ensures.0

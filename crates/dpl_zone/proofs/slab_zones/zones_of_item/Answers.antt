@@ -1,5 +1,6 @@
 use Rattle.std.proofs.Common.{false, arith, sym, ◌∙◌}
 use Rattle.std.proofs.lemmas.List.{get_or_default}
+use Rattle.std.proofs.lemmas.Result.{IfOk-from_err}
 use Rattle.dpl_join.specs.Pairs.{item_at}
 use Rattle.dpl_shade.specs.Ends.{AreEndsOf, ends_at}
 use Rattle.dpl_shade.specs.Items.{own_in}
@@ -43,3 +44,9 @@ returns c =
     (alive-from c.args.shades.now.dead.items c.args.at.number c.index.result.now c.index.ensures c.if-index.false) told
     (rw c.deref.ensures.value at c.in_ok-rows_at.ensures.rows) c.clear.ensures.items
     (rw c.deref-2.ensures.value at c.in_ok-add_zones.ensures)
+
+pub returns-in_err-rows_at : goal.returns-in_err-rows_at
+returns-in_err-rows_at c = IfOk-from_err _ _ c.from_residual.ensures.0
+
+pub returns-in_err-add_zones : goal.returns-in_err-add_zones
+returns-in_err-add_zones c = IfOk-from_err _ _ c.from_residual-in_err-add_zones.ensures.0

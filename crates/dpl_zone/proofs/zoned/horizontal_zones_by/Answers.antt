@@ -1,3 +1,4 @@
+use Rattle.std.proofs.lemmas.Result.{IfOk-from_err}
 use Rattle.dpl_zone.specs.Owned.{transposed_parts}
 use Rattle.dpl_zone.proofs.ColumnLaws.{sets-of_columns}
 use Rattle.dpl_zone.proofs.OwnedLaws.{sets-within}
@@ -17,3 +18,6 @@ pub returns : goal.returns
 returns g c =
     flat-from c.args.spacing c.args.overlap c.args.parts.now c.in_ok-zones.zones.items _
     (c.in_ok-zones.ensures (transposed_parts c.args.parts.now) (sets-of_columns c.args.parts.now _ c.requires.columns) (apart-turned c.args.parts.now c.items.ensures.parts.apart)) c.transpose.ensures
+
+pub returns-in_err-zones : goal.returns-in_err-zones
+returns-in_err-zones g c = IfOk-from_err _ _ c.from_residual.ensures.0
