@@ -1,5 +1,6 @@
 use Rattle.std.proofs.Common.{◌≡◌, ℕ, ◌+◌, ◌<◌, List, [], ◌∷◌, ◌++◌, length, get_or, map, take, append-nil, sym, ap, ◌∙◌}
 use Rattle.std.proofs.lemmas.List.{append_assoc, map_more, take_all}
+use Rattle.std.proofs.lemmas.Result.{IfOk-from_err}
 use Rattle.dpl_spec_split.specs.declared.Rect.{Rect}
 use Rattle.dpl_sides.specs.declared.corner.Slab.{Slab}
 use Rattle.dpl_sides.specs.Corners.{slab_of}
@@ -21,3 +22,6 @@ loop-r-preserved c =
 pub returns : goal.returns
 returns c = c.loop-r.invariant
     ∙ ap (λ (xs : List Rect). c.args.slabs.now.items ++ map (slab_of c.args.number) xs) (take_all c.loop-r.r-index c.args.rects.now c.loop-r-test.false)
+
+pub returns-in_err-push : goal.returns-in_err-push
+returns-in_err-push c = IfOk-from_err _ _ c.from_residual.ensures.0

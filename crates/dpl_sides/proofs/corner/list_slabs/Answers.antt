@@ -1,5 +1,6 @@
 use Rattle.std.proofs.Common.{◌≡◌, ◌<◌, [], length, arith, rules}
 use Rattle.std.proofs.lemmas.List.{get_or-map, length-map}
+use Rattle.std.proofs.lemmas.Result.{IfOk-from_err}
 use Rattle.dpl_sides.specs.declared.piece.Piece.{Piece}
 use Rattle.dpl_sides.specs.Pieces.{parts_in}
 use Rattle.dpl_sides.proofs.CornerLaws.{slabs-none, slabs-next, slabs-sorted}
@@ -19,3 +20,6 @@ returns c =
     let all : c.loop-k.k ≡ length (parts_in c.args.pieces.now) = omega (arith, length-map c.args.pieces.now (λ x. let u : Piece = x in u.part)) in
     slabs-sorted (parts_in c.args.pieces.now) c.args.from (length (parts_in c.args.pieces.now)) _ _ c.sort_by_key.ensures.permutation
     (rw all at c.loop-k.invariant)
+
+pub returns-in_err-add_slabs : goal.returns-in_err-add_slabs
+returns-in_err-add_slabs c = IfOk-from_err _ _ c.from_residual.ensures.0

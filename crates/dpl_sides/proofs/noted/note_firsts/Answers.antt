@@ -1,5 +1,6 @@
 use Rattle.std.proofs.Common.{◌≡◌, ◌<◌, length, map, sym, subst, arith}
 use Rattle.std.specs.List.{All}
+use Rattle.std.proofs.lemmas.Result.{IfOk-from_err}
 use Rattle.dpl_sides.specs.declared.corner.Kind.TheVariants.{LowerLeft, LowerRight, UpperLeft}
 use Rattle.dpl_sides.specs.Corners.{slab_corner}
 use Rattle.dpl_sides.proofs.CornerLaws.{slabs-cornered, zone-numbers}

@@ -1,4 +1,5 @@
 use Rattle.std.proofs.Common.{List, length, drop, ◌∙◌, sym, subst}
+use Rattle.std.proofs.lemmas.Result.{IfOk-from_err}
 use Rattle.dpl_spec_split.specs.declared.Rect.{Rect}
 use Rattle.dpl_sides.specs.Corners.{AreSlabsWithin}
 use Rattle.dpl_sides.specs.Noted.{AreSidesNoted, StandsAfterFrom, StandsBeforeFrom}
@@ -47,3 +48,27 @@ returns-clause-seconds c =
     let are = c.in_ok-note_seconds.ensures parts c.args.from slabs in
     subst (AreSidesNoted (StandsAfterFrom parts c.args.from) c.args.zones.now c.args.own.now c.args.noted.now.seconds.items)
     (sym (written-back c.note_seconds.new.noted _ c.args.noted.now.seconds.len (are.each ∙ c.deref_mut-3.ensures.len))) (rw c.deref_mut-3.ensures.value at are)
+
+pub returns-in_err-short_id-clause-firsts : goal.returns-in_err-short_id-clause-firsts
+returns-in_err-short_id-clause-firsts c = IfOk-from_err _ _ c.from_residual.ensures.0
+
+pub returns-in_err-short_id-clause-seconds : goal.returns-in_err-short_id-clause-seconds
+returns-in_err-short_id-clause-seconds c = IfOk-from_err _ _ c.from_residual.ensures.0
+
+pub returns-in_err-list_slabs-clause-firsts : goal.returns-in_err-list_slabs-clause-firsts
+returns-in_err-list_slabs-clause-firsts c = IfOk-from_err _ _ c.from_residual-in_err-list_slabs.ensures.0
+
+pub returns-in_err-list_slabs-clause-seconds : goal.returns-in_err-list_slabs-clause-seconds
+returns-in_err-list_slabs-clause-seconds c = IfOk-from_err _ _ c.from_residual-in_err-list_slabs.ensures.0
+
+pub returns-in_err-note_firsts-clause-firsts : goal.returns-in_err-note_firsts-clause-firsts
+returns-in_err-note_firsts-clause-firsts c = IfOk-from_err _ _ c.from_residual-in_err-note_firsts.ensures.0
+
+pub returns-in_err-note_firsts-clause-seconds : goal.returns-in_err-note_firsts-clause-seconds
+returns-in_err-note_firsts-clause-seconds c = IfOk-from_err _ _ c.from_residual-in_err-note_firsts.ensures.0
+
+pub returns-in_err-note_seconds-clause-firsts : goal.returns-in_err-note_seconds-clause-firsts
+returns-in_err-note_seconds-clause-firsts c = IfOk-from_err _ _ c.from_residual-in_err-note_seconds.ensures.0
+
+pub returns-in_err-note_seconds-clause-seconds : goal.returns-in_err-note_seconds-clause-seconds
+returns-in_err-note_seconds-clause-seconds c = IfOk-from_err _ _ c.from_residual-in_err-note_seconds.ensures.0

@@ -1,6 +1,7 @@
 use Rattle.std.proofs.Common.{◌≡◌, ℕ, suc, ◌+◌, ◌<◌, ◌++◌, ◌∷◌, [], List, length, map, get_or, take, refl, sym, ap, ◌∙◌, arith}
 use Rattle.std.proofs.lemmas.List.{map-append, take_all}
 use Rattle.std.proofs.Math.Seq.{take-suc}
+use Rattle.std.proofs.lemmas.Result.{IfOk-from_err}
 use Rattle.dpl_sides.specs.declared.sided.Sided.{Sided}
 use Rattle.dpl_sides.specs.declared.standing.Side.TheVariants.{Before, After}
 use Rattle.dpl_sides.specs.Sided.{on_side}
@@ -33,3 +34,21 @@ returns-clause-firsts c = c.loop-i.invariant.firsts ∙ take_all c.loop-i.i c.ar
 
 pub returns-clause-seconds : goal.returns-clause-seconds
 returns-clause-seconds c = c.loop-i.invariant.seconds ∙ take_all c.loop-i.i c.args.seconds.now (omega (arith, c.requires.seconds))
+
+pub returns-in_err-zones-clause-own : goal.returns-in_err-zones-clause-own
+returns-in_err-zones-clause-own c = IfOk-from_err _ _ c.from_residual.ensures.0
+
+pub returns-in_err-zones-clause-firsts : goal.returns-in_err-zones-clause-firsts
+returns-in_err-zones-clause-firsts c = IfOk-from_err _ _ c.from_residual.ensures.0
+
+pub returns-in_err-zones-clause-seconds : goal.returns-in_err-zones-clause-seconds
+returns-in_err-zones-clause-seconds c = IfOk-from_err _ _ c.from_residual.ensures.0
+
+pub returns-in_err-push-clause-own : goal.returns-in_err-push-clause-own
+returns-in_err-push-clause-own c = IfOk-from_err _ _ c.from_residual-in_err-push.ensures.0
+
+pub returns-in_err-push-clause-firsts : goal.returns-in_err-push-clause-firsts
+returns-in_err-push-clause-firsts c = IfOk-from_err _ _ c.from_residual-in_err-push.ensures.0
+
+pub returns-in_err-push-clause-seconds : goal.returns-in_err-push-clause-seconds
+returns-in_err-push-clause-seconds c = IfOk-from_err _ _ c.from_residual-in_err-push.ensures.0

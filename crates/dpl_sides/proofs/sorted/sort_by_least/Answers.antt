@@ -1,6 +1,7 @@
 use Rattle.std.proofs.Common.{length, drop, ◌∙◌, rules}
 use Rattle.std.specs.Prelude.{ℤ}
 use Rattle.std.proofs.lemmas.List.Sorted.{answers_always, IsPermutation-trans, length_permutation}
+use Rattle.std.proofs.lemmas.Result.{IfOk-from_err}
 use Rattle.dpl_sides.specs.declared.piece.Piece.{Piece}
 use Rattle.dpl_sides.specs.Pieces.{least_key}
 use Rattle.dpl_sides.proofs.Noting.{written-back}
@@ -17,3 +18,9 @@ pub returns-clause-rise : goal.returns-clause-rise
 returns-clause-rise c =
     let key : Piece → ℤ × ℤ = λ x. least_key x.part in
     c.sort_by_key.ensures.sorted key (answers_always _ _ _ (λ f a r g q. search rules))
+
+pub returns-in_err-arrange-clause-same : goal.returns-in_err-arrange-clause-same
+returns-in_err-arrange-clause-same c = IfOk-from_err _ _ c.from_residual.ensures.0
+
+pub returns-in_err-arrange-clause-rise : goal.returns-in_err-arrange-clause-rise
+returns-in_err-arrange-clause-rise c = IfOk-from_err _ _ c.from_residual.ensures.0

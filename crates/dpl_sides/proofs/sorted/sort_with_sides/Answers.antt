@@ -1,6 +1,6 @@
 use Rattle.std.proofs.Common.{◌<◌, List, length, get_or, drop, ap, ◌∙◌, arith, rules}
 use Rattle.std.specs.List.Sorted.{IsPermutation}
-use Rattle.std.proofs.lemmas.Result.{IfOk-weaker}
+use Rattle.std.proofs.lemmas.Result.{IfOk-weaker, IfOk-from_err}
 use Rattle.dpl_sides.specs.declared.piece.Piece.{Piece}
 use Rattle.dpl_sides.specs.Noted.{AreNumbered}
 use Rattle.dpl_sides.proofs.Noting.{written-back}
