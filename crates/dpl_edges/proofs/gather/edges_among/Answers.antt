@@ -1,4 +1,5 @@
 use Rattle.std.proofs.Common.{arith}
+use Rattle.std.proofs.lemmas.Result.{IfOk-from_err}
 use Rattle.dpl_spec_split.specs.Squares.{Has}
 use Rattle.dpl_tile.proofs.Loops.{each-all, each-next, each-none}
 use Rattle.dpl_edges.proofs.Gathering.{IsMeetingEdge, first-known, item-solid, meeting-edges, second-known}
@@ -28,3 +29,6 @@ loop-m-preserved c = each-next (IsMeetingEdge c.args.plan.now c.args.cell.now) c
 pub returns-clause-edges : goal.returns-clause-edges
 returns-clause-edges c = meeting-edges c.args.plan.now c.args.cell.now c.args.meetings.now c.items-items.ensures.items c.requires.meetings _ c.loop-m.found.items c.new-found.ensures.items
     (each-all (IsMeetingEdge c.args.plan.now c.args.cell.now) c.args.meetings.now c.loop-m.m-index _ c.loop-m.found.items (omega arith) c.loop-m.invariant)
+
+pub returns-in_err-add_edge-clause-edges : goal.returns-in_err-add_edge-clause-edges
+returns-in_err-add_edge-clause-edges c = IfOk-from_err _ _ c.from_residual.ensures.0

@@ -1,6 +1,7 @@
 use Rattle.std.proofs.Common.{◌≡◌, [], get_or, ◌∙◌, sym, refl, subst, arith}
 use Rattle.std.proofs.lemmas.Bool.{false≢true}
 use Rattle.std.proofs.lemmas.List.{get_or_default}
+use Rattle.std.proofs.lemmas.Result.{IfOk-from_err}
 use Rattle.dpl_spec_split.specs.Squares.{Covers}
 use Rattle.dpl_spec_split.specs.Zones.{part_at}
 use Rattle.dpl_spec_split.specs.Marks.{HasSome}
@@ -25,3 +26,15 @@ loop-k-preserved c =
 
 pub returns-clause-members : goal.returns-clause-members
 returns-clause-members c = fixed-all c.args.parts.now c.args.set.now c.args.anchor c.args.edges.now.items c.loop-k.k c.loop-k.edges.items (omega (arith, c.loop-k-test.false)) c.loop-k.invariant
+
+pub returns-in_err-tree-clause-ordered : goal.returns-in_err-tree-clause-ordered
+returns-in_err-tree-clause-ordered c = IfOk-from_err _ _ c.from_residual.ensures.0
+
+pub returns-in_err-tree-clause-members : goal.returns-in_err-tree-clause-members
+returns-in_err-tree-clause-members c = IfOk-from_err _ _ c.from_residual.ensures.0
+
+pub returns-in_err-push-clause-ordered : goal.returns-in_err-push-clause-ordered
+returns-in_err-push-clause-ordered c = IfOk-from_err _ _ c.from_residual-in_err-push.ensures.0
+
+pub returns-in_err-push-clause-members : goal.returns-in_err-push-clause-members
+returns-in_err-push-clause-members c = IfOk-from_err _ _ c.from_residual-in_err-push.ensures.0

@@ -1,6 +1,7 @@
 use Rattle.std.proofs.Common.{◌+◌, sym, ap, ◌∙◌}
 use Rattle.std.specs.Prelude.{ℕ, map}
 use Rattle.std.proofs.lemmas.List.{map_more, take_all}
+use Rattle.std.proofs.lemmas.Result.{IfOk-from_err}
 use Rattle.dpl_edges.proofs.marks.shifted.Goals as goal
 
 pub loop-i-init : goal.loop-i-init
@@ -15,3 +16,9 @@ loop-i-preserved c =
 
 pub returns : goal.returns
 returns c = c.loop-i.invariant ∙ ap (map (λ (e : ℕ × ℕ). (e.0 + 2, e.1 + 2))) (take_all c.loop-i.i-index c.args.edges.now c.loop-i-test.false)
+
+pub returns-in_err-moved : goal.returns-in_err-moved
+returns-in_err-moved c = IfOk-from_err _ _ c.from_residual.ensures.0
+
+pub returns-in_err-push : goal.returns-in_err-push
+returns-in_err-push c = IfOk-from_err _ _ c.from_residual-in_err-push.ensures.0

@@ -1,5 +1,6 @@
 use Rattle.std.proofs.Common.{arith}
 use Rattle.std.proofs.lemmas.List.Elements.{Contains-get_or}
+use Rattle.std.proofs.lemmas.Result.{IfOk-from_err}
 use Rattle.dpl_tile.proofs.Loops.{each-all, each-next, each-none}
 use Rattle.dpl_edges.specs.Found.{IsFoesEdge}
 use Rattle.dpl_edges.proofs.pairs.add_edges.Goals as goal
@@ -20,3 +21,6 @@ loop-pair-preserved c = each-next (IsFoesEdge c.args.spacing c.args.owners.now c
 pub returns : goal.returns
 returns c = each-all (IsFoesEdge c.args.spacing c.args.owners.now c.args.items.now) c.args.pairs.now c.loop-pair.pair-index _
     c.loop-pair.found.items (omega arith) c.loop-pair.invariant
+
+pub returns-in_err-add_edge : goal.returns-in_err-add_edge
+returns-in_err-add_edge c = IfOk-from_err _ _ c.from_residual.ensures.0

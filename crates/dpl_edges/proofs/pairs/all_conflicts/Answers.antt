@@ -1,5 +1,5 @@
 use Rattle.std.proofs.Common.{length, ap}
-use Rattle.std.proofs.lemmas.Result.{IfOk-weaker}
+use Rattle.std.proofs.lemmas.Result.{IfOk-weaker, IfOk-from_err}
 use Rattle.dpl_edges.proofs.Finding.{edges-of_one, join-owned, join-solid, sorted-conflicts}
 use Rattle.dpl_edges.proofs.pairs.all_conflicts.Goals as goal
 
@@ -17,3 +17,9 @@ returns c =
           sorted-conflicts c.args.parts.now c.args.owners.now c.args.spacing c.in_ok-join.join c.requires.corner c.in_ok-join.ensures c.in_ok-found.found.items v.items _ found
           (ap length c.items.ensures.value) sorted) (rw c.deref.ensures.value at c.sorted_between.ensures);
     }
+
+pub returns-in_err-join : goal.returns-in_err-join
+returns-in_err-join c = record { edges = IfOk-from_err _ _ c.from_residual.ensures.0; }
+
+pub returns-in_err-found : goal.returns-in_err-found
+returns-in_err-found c = record { edges = IfOk-from_err _ _ c.from_residual-in_err-found.ensures.0; }

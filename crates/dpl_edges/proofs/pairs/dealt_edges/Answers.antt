@@ -1,4 +1,5 @@
 use Rattle.std.proofs.Common.{arith}
+use Rattle.std.proofs.lemmas.Result.{IfOk-from_err}
 use Rattle.dpl_tile.proofs.Adding.{adds-none}
 use Rattle.dpl_edges.proofs.Finding.{IsDealtIn, dealt-all, dealt-more, dealt-past, strip-known}
 use Rattle.dpl_edges.proofs.pairs.dealt_edges.Goals as goal
@@ -28,3 +29,9 @@ returns c =
     let count = c.strips-count.ensures.count in
     dealt-all c.args.spacing c.args.owners.now c.args.join.now c.args.workers c.args.worker c.loop-strip.strip _ c.loop-strip.found.items
     c.strips-count.ensures.homes (omega (arith, end, count)) c.new-found.ensures.items c.loop-strip.invariant
+
+pub returns-in_err-pairs : goal.returns-in_err-pairs
+returns-in_err-pairs c = IfOk-from_err _ _ c.from_residual.ensures.0
+
+pub returns-in_err-add_edges : goal.returns-in_err-add_edges
+returns-in_err-add_edges c = IfOk-from_err _ _ c.from_residual-in_err-add_edges.ensures.0

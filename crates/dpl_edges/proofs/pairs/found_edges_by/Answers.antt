@@ -1,5 +1,6 @@
 use Rattle.std.proofs.Common.{◌≡◌, ◌<◌, ◌++◌, ◌∷◌, [], length, ap, arith, rules}
 use Rattle.std.proofs.lemmas.List.{length_push}
+use Rattle.std.proofs.lemmas.Result.{IfOk-from_err}
 use Rattle.dpl_tile.proofs.Taking.{taken-all, taken-more, taken-none}
 use Rattle.dpl_edges.specs.Found.{IsDealtEdge}
 use Rattle.dpl_edges.proofs.Finding.{edges-of_workers}
@@ -28,3 +29,12 @@ returns g c =
     edges-of_workers c.args.spacing c.args.owners.now c.args.join.now c.workers_for-count.result c.loop-list.found.items c.workers_for-count.ensures
     (taken-all (IsDealtEdge c.args.spacing c.args.owners.now c.args.join.now c.workers_for-count.result) c.workers_for-count.result c.loop-list.lists.items c.loop-list.found.items
     none c.loop-list.invariant)
+
+pub returns-in_err-lists : goal.returns-in_err-lists
+returns-in_err-lists g c = IfOk-from_err _ _ c.from_residual.ensures.0
+
+pub returns-in_err-list : goal.returns-in_err-list
+returns-in_err-list g c = IfOk-from_err _ _ c.from_residual-in_err-list.ensures.0
+
+pub returns-in_err-append : goal.returns-in_err-append
+returns-in_err-append g c = IfOk-from_err _ _ c.from_residual-in_err-append.ensures.0

@@ -1,5 +1,6 @@
 use Rattle.std.proofs.Common.{◌≡◌, List, Result, Ok, Err}
 use Rattle.std.specs.Result.{IfOk}
+use Rattle.std.proofs.lemmas.Result.{IfOk-from_err}
 use Rattle.dpl_spec_split.specs.declared.Rect.{Rect}
 use Rattle.dpl_spec_split.specs.declared.Spacing.{Spacing}
 use Rattle.dpl_slabs.specs.Parts.{AreParts}
@@ -18,3 +19,6 @@ pub returns : goal.returns
 returns c =
     joined-of c.of.result c.args.parts.now c.args.spacing c.in_ok-items.items.items c.items.ensures.parts (rw c.items.ensures.value at c.in_ok-items.ensures)
     c.of.ensures.items c.of.ensures.rule
+
+pub returns-in_err-items : goal.returns-in_err-items
+returns-in_err-items c = IfOk-from_err _ _ c.from_residual.ensures.0
