@@ -19,7 +19,7 @@ returns c =
     }
 
 pub returns-in_err-join : goal.returns-in_err-join
-returns-in_err-join c = record { edges = IfOk-from_err _ _ c.from_residual.ensures.0; }
+returns-in_err-join c = record { edges = IfOk-from_err _ _ c.from_residual.ensures.0 }
 
 pub returns-in_err-found : goal.returns-in_err-found
-returns-in_err-found c = record { edges = IfOk-from_err _ _ c.from_residual-in_err-found.ensures.0; }
+returns-in_err-found c = record { edges = IfOk-from_err _ _ c.from_residual-in_err-found.ensures.0 }
