@@ -1,4 +1,5 @@
 use Rattle.std.proofs.Common.{sym, refl, inl, inr, subst, length}
+use Rattle.std.proofs.lemmas.Result.{IfOk-from_err}
 use Rattle.std.proofs.lemmas.Bool.{false≢true}
 use Rattle.dpl_spec_split.specs.Marks.{asked}
 use Rattle.dpl_cert.specs.declared.cert.Cert.{Cert}
@@ -51,3 +52,12 @@ returns c =
         (cut, is, inr (none, refl)),
       ),
     ))
+
+pub returns-in_err-marked : goal.returns-in_err-marked
+returns-in_err-marked c = IfOk-from_err _ _ c.from_residual.ensures.0
+
+pub returns-in_err-cut : goal.returns-in_err-cut
+returns-in_err-cut c = IfOk-from_err _ _ c.from_residual-in_err-cut.ensures.0
+
+pub returns-in_err-place : goal.returns-in_err-place
+returns-in_err-place c = IfOk-from_err _ _ c.from_residual-in_err-place.ensures.0

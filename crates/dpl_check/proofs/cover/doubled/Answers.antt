@@ -1,4 +1,5 @@
 use Rattle.std.proofs.Common.{◌≡◌, length, arith}
+use Rattle.std.proofs.lemmas.Result.{IfOk-from_err}
 use Rattle.dpl_check.specs.Findings.{is_unlisted}
 use Rattle.dpl_check.proofs.Sets.{least-of, unlisted-are, unlisted-none, stitches-within}
 use Rattle.dpl_check.proofs.cover.doubled.Goals as goal
@@ -17,3 +18,9 @@ returns c =
     least-of (is_unlisted c.args.both.now c.args.stitches.now) c.in_ok-left.left c.least.result
     (unlisted-are c.args.both.now c.in_ok-left.left c.args.stitches.now left)
     c.least.ensures.none c.least.ensures.some
+
+pub returns-in_err-listed : goal.returns-in_err-listed
+returns-in_err-listed c = IfOk-from_err _ _ c.from_residual.ensures.0
+
+pub returns-in_err-left : goal.returns-in_err-left
+returns-in_err-left c = IfOk-from_err _ _ c.from_residual-in_err-left.ensures.0

@@ -1,3 +1,4 @@
+use Rattle.std.proofs.lemmas.Result.{IfOk-from_err}
 use Rattle.dpl_spec_verdict.specs.Masks.{is_uncovered}
 use Rattle.dpl_check.proofs.Sets.{least-of, none-uncovered, uncovered-are}
 use Rattle.dpl_check.proofs.cover.uncovered.Goals as goal
@@ -10,3 +11,15 @@ returns c = least-of (is_uncovered c.args.layer.now c.args.a.now c.args.b.now) c
     (uncovered-are c.args.layer.now c.args.a.now c.args.b.now c.in_ok-masks.masks c.in_ok-missing.missing c.in_ok-added.added
     c.in_ok-all.all c.in_ok-masks.ensures c.in_ok-missing.ensures c.in_ok-added.ensures c.in_ok-all.ensures)
     c.least.ensures.none c.least.ensures.some
+
+pub returns-in_err-masks : goal.returns-in_err-masks
+returns-in_err-masks c = IfOk-from_err _ _ c.from_residual.ensures.0
+
+pub returns-in_err-missing : goal.returns-in_err-missing
+returns-in_err-missing c = IfOk-from_err _ _ c.from_residual-in_err-missing.ensures.0
+
+pub returns-in_err-added : goal.returns-in_err-added
+returns-in_err-added c = IfOk-from_err _ _ c.from_residual-in_err-added.ensures.0
+
+pub returns-in_err-all : goal.returns-in_err-all
+returns-in_err-all c = IfOk-from_err _ _ c.from_residual-in_err-all.ensures.0

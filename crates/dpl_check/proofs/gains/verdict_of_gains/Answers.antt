@@ -1,4 +1,5 @@
 use Rattle.std.proofs.Common.{List, Option, sym, refl, inl, inr, subst}
+use Rattle.std.proofs.lemmas.Result.{IfOk-from_err}
 use Rattle.std.proofs.lemmas.Bool.{false≢true}
 use Rattle.dpl_cert.specs.declared.cert.Gain.{Gain}
 use Rattle.dpl_spec_verdict.specs.declared.Verdict.TheVariants.{Valid, Gain as GainAt}
@@ -44,3 +45,15 @@ returns c = λ marks are.
         (c.in_ok-found.found.items, found, inr (none, refl)),
       ),
     )
+
+pub returns-in_err-marked : goal.returns-in_err-marked
+returns-in_err-marked c = λ marks are. IfOk-from_err _ _ c.from_residual.ensures.0
+
+pub returns-in_err-cut : goal.returns-in_err-cut
+returns-in_err-cut c = λ marks are. IfOk-from_err _ _ c.from_residual-in_err-cut.ensures.0
+
+pub returns-in_err-letters : goal.returns-in_err-letters
+returns-in_err-letters c = λ marks are. IfOk-from_err _ _ c.from_residual-in_err-letters.ensures.0
+
+pub returns-in_err-found : goal.returns-in_err-found
+returns-in_err-found c = λ marks are. IfOk-from_err _ _ c.from_residual-in_err-found.ensures.0

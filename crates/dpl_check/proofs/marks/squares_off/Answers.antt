@@ -1,5 +1,5 @@
 use Rattle.std.proofs.Common.{◌≡◌, length, arith}
-use Rattle.std.proofs.lemmas.Result.{IfOk-weaker}
+use Rattle.std.proofs.lemmas.Result.{IfOk-weaker, IfOk-from_err}
 use Rattle.dpl_check.proofs.Marking.{none-off, squares-are}
 use Rattle.dpl_check.proofs.marks.squares_off.Goals as goal
 
@@ -13,3 +13,9 @@ returns c = IfOk-weaker c.minus-2.result _ _
     (λ off is. squares-are c.args.layer.now c.args.mask.now c.args.other.now c.args.marked.now c.in_ok-fixed.fixed c.in_ok-alone.alone off
     c.in_ok-fixed.ensures c.in_ok-alone.ensures is)
     c.minus-2.ensures
+
+pub returns-in_err-fixed : goal.returns-in_err-fixed
+returns-in_err-fixed c = IfOk-from_err _ _ c.from_residual.ensures.0
+
+pub returns-in_err-alone : goal.returns-in_err-alone
+returns-in_err-alone c = IfOk-from_err _ _ c.from_residual-in_err-alone.ensures.0

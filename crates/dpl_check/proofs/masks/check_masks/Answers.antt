@@ -1,6 +1,6 @@
 use Rattle.std.proofs.Common.{sym, refl, inl, inr, Some, None, subst}
 use Rattle.std.proofs.lemmas.Bool.{false≢true}
-use Rattle.std.proofs.lemmas.Result.{IfOk-weaker}
+use Rattle.std.proofs.lemmas.Result.{IfOk-weaker, IfOk-from_err}
 use Rattle.dpl_cert.specs.declared.cert.Cert.{Cert}
 use Rattle.dpl_spec_verdict.specs.declared.Verdict.TheVariants.{Cover, Overlap, SpacingA, SpacingB, Marked, Stitch, Piece}
 use Rattle.dpl_spec_verdict.specs.Masks.{IsVerdictOfMasks}
@@ -232,3 +232,33 @@ returns c = λ marks are.
       ),
     )))
     (c.verdict_of_gains.ensures marks are)
+
+pub returns-in_err-features : goal.returns-in_err-features
+returns-in_err-features c = λ marks are. IfOk-from_err _ _ c.from_residual.ensures.0
+
+pub returns-in_err-found : goal.returns-in_err-found
+returns-in_err-found c = λ marks are. IfOk-from_err _ _ c.from_residual-in_err-found.ensures.0
+
+pub returns-in_err-at : goal.returns-in_err-at
+returns-in_err-at c = λ marks are. IfOk-from_err _ _ c.from_residual-in_err-at.ensures.0
+
+pub returns-in_err-both : goal.returns-in_err-both
+returns-in_err-both c = λ marks are. IfOk-from_err _ _ c.from_residual-in_err-both.ensures.0
+
+pub returns-in_err-at-2 : goal.returns-in_err-at-2
+returns-in_err-at-2 c = λ marks are. IfOk-from_err _ _ c.from_residual-in_err-at-2.ensures.0
+
+pub returns-in_err-first : goal.returns-in_err-first
+returns-in_err-first c = λ marks are. IfOk-from_err _ _ c.from_residual-in_err-first.ensures.0
+
+pub returns-in_err-first-2 : goal.returns-in_err-first-2
+returns-in_err-first-2 c = λ marks are. IfOk-from_err _ _ c.from_residual-in_err-first-2.ensures.0
+
+pub returns-in_err-at-3 : goal.returns-in_err-at-3
+returns-in_err-at-3 c = λ marks are. IfOk-from_err _ _ c.from_residual-in_err-at-3.ensures.0
+
+pub returns-in_err-index : goal.returns-in_err-index
+returns-in_err-index c = λ marks are. IfOk-from_err _ _ c.from_residual-in_err-index.ensures.0
+
+pub returns-in_err-index-2 : goal.returns-in_err-index-2
+returns-in_err-index-2 c = λ marks are. IfOk-from_err _ _ c.from_residual-in_err-index-2.ensures.0

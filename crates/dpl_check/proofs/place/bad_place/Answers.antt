@@ -1,4 +1,5 @@
 use Rattle.std.proofs.Common.{List, subst, ◌∙◌, ap, length}
+use Rattle.std.proofs.lemmas.Result.{IfOk-from_err}
 use Rattle.dpl_spec_split.specs.declared.Rect.{Rect}
 use Rattle.dpl_spec_split.specs.Marks.{asked}
 use Rattle.dpl_tree.specs.Trees.{AreItemsOf}
@@ -28,3 +29,12 @@ returns c = λ features.
       same-bad trees marks same c.args.spacing _ features pieces c.args.cycle.now c.args.near.now k _,
       same-bad marks trees (same-back trees marks same) c.args.spacing features _ pieces c.args.cycle.now c.args.near.now k _,
     )) c.first_wrong.ensures
+
+pub returns-in_err-tree : goal.returns-in_err-tree
+returns-in_err-tree c = IfOk-from_err _ _ c.from_residual.ensures.0
+
+pub returns-in_err-trees : goal.returns-in_err-trees
+returns-in_err-trees c = IfOk-from_err _ _ c.from_residual-in_err-trees.ensures.0
+
+pub returns-in_err-stood : goal.returns-in_err-stood
+returns-in_err-stood c = IfOk-from_err _ _ c.from_residual-in_err-stood.ensures.0

@@ -1,4 +1,5 @@
 use Rattle.std.proofs.Common.{length, arith, rules}
+use Rattle.std.proofs.lemmas.Result.{IfOk-from_err}
 use Rattle.dpl_check.proofs.Owning.{owned-solid, single-solid, foreign-within, none-foreign, foreign-covered, some-second, least-foreign}
 use Rattle.dpl_check.proofs.spacing.foreign_pair.Goals as goal
 
@@ -60,3 +61,9 @@ returns c =
     let second = rw c.in-Some-first_foreign.is at c.first_foreign-2.ensures in
     least-foreign c.args.spacing c.args.rects.now c.args.owners.now c.in_ok-tree.tree c.in_ok-tree.ensures c.requires.once c.in-Some.first
     c.in-Some-owner_at.owner owner c.in_ok-single.single c.in_ok-single.ensures c.in-Some-first_foreign.second first second
+
+pub returns-in_err-tree : goal.returns-in_err-tree
+returns-in_err-tree c = IfOk-from_err _ _ c.from_residual.ensures.0
+
+pub returns-in_err-single : goal.returns-in_err-single
+returns-in_err-single c = IfOk-from_err _ _ c.from_residual-in_err-single.ensures.0

@@ -1,5 +1,6 @@
 use Rattle.std.specs.Prelude.{pos}
 use Rattle.std.proofs.Common.{◌≡◌, get_or, take, arith}
+use Rattle.std.proofs.lemmas.Result.{IfOk-from_err}
 use Rattle.std.proofs.lemmas.List.{get_or_default, take_all}
 use Rattle.dpl_spec_split.specs.declared.Rect.{Rect}
 use Rattle.dpl_tree.specs.declared.owners.Owners.TheVariants.{Only}
@@ -22,3 +23,6 @@ pub returns : goal.returns
 returns c =
     let all : take c.loop-r.r-index c.args.rects.now ≡ c.args.rects.now = take_all c.loop-r.r-index c.args.rects.now (omega arith) in
     rw all at c.loop-r.invariant
+
+pub returns-in_err-push : goal.returns-in_err-push
+returns-in_err-push c = IfOk-from_err _ _ c.from_residual.ensures.0

@@ -1,5 +1,5 @@
 use Rattle.std.proofs.Common.{sym}
-use Rattle.std.proofs.lemmas.Result.{IfOk-weaker}
+use Rattle.std.proofs.lemmas.Result.{IfOk-weaker, IfOk-from_err}
 use Rattle.dpl_spec_split.specs.Squares.{Covers}
 use Rattle.dpl_tree.specs.declared.owners.Owners.TheVariants.{Only}
 use Rattle.dpl_nearest.specs.Search.{ItemCovers}
@@ -41,3 +41,9 @@ returns c =
     (AreTooClose c.args.spacing (Covers c.args.layer.now) (Covers c.args.mask.now)) found
     (foreign-close c.args.layer.now c.args.features.now c.in_ok-tree.tree c.args.mask.now c.requires.features are
     c.rects-rects.ensures.canonical.solid c.requires.inside c.in_ok-owners.owners.items own c.args.spacing) h) pair
+
+pub returns-in_err-tree : goal.returns-in_err-tree
+returns-in_err-tree c = IfOk-from_err _ _ c.from_residual.ensures.0
+
+pub returns-in_err-owners : goal.returns-in_err-owners
+returns-in_err-owners c = IfOk-from_err _ _ c.from_residual-in_err-owners.ensures.0

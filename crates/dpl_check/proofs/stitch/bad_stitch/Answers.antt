@@ -1,4 +1,5 @@
 use Rattle.std.proofs.Common.{[], ◌∷◌}
+use Rattle.std.proofs.lemmas.Result.{IfOk-from_err}
 use Rattle.dpl_spec_split.specs.Squares.{Covers}
 use Rattle.dpl_tree.specs.declared.owners.Owners.TheVariants.{All as Everyone}
 use Rattle.dpl_nearest.specs.Search.{ItemCovers}
@@ -18,3 +19,9 @@ returns c =
     (IsWrongStitch c.args.overlap (λ p. ¬ Covers c.args.both.now p) c.args.pieces.now) c.args.stitches.now c.first_wrong.result
     (wrong-outside c.args.overlap (c.in-Some.bounds ∷ []) c.args.both.now c.in_ok-off.off c.args.pieces.now c.args.stitches.now
     c.in_ok-tree.tree (stitch-inside c.args.stitches.now c.in-Some.bounds c.in-Some.ensures.all) off are) c.first_wrong.ensures
+
+pub returns-in_err-off : goal.returns-in_err-off
+returns-in_err-off c = IfOk-from_err _ _ c.from_residual.ensures.0
+
+pub returns-in_err-tree : goal.returns-in_err-tree
+returns-in_err-tree c = IfOk-from_err _ _ c.from_residual-in_err-tree.ensures.0
