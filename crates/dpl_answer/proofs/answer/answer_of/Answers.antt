@@ -1,4 +1,5 @@
 use Rattle.std.proofs.Common.{◌∙◌, sym}
+use Rattle.std.proofs.lemmas.Result.{IfOk-from_err}
 use Rattle.std.specs.Option.{option_copied}
 use Rattle.dpl_answer.specs.Anchors.{marks_in}
 use Rattle.dpl_answer.proofs.Planned.{conflicts_completed}
@@ -35,3 +36,30 @@ returns-in_ok-clash-in-Odd-clause-flat g c = (
   c.in_ok-cut.ensures.pieces,
   λ features many. c.in_ok-clash-in-Odd.ensures.clash features (many ∙ sym c.in_ok-cut.ensures.features),
 )
+
+pub returns-in_err-cut-clause-flat : goal.returns-in_err-cut-clause-flat
+returns-in_err-cut-clause-flat g c = IfOk-from_err _ _ c.from_residual.ensures.0
+
+pub returns-in_err-cut-clause-within : goal.returns-in_err-cut-clause-within
+returns-in_err-cut-clause-within g c = IfOk-from_err _ _ c.from_residual.ensures.0
+
+pub returns-in_err-cut-clause-fits : goal.returns-in_err-cut-clause-fits
+returns-in_err-cut-clause-fits g c = λ some. IfOk-from_err _ _ c.from_residual.ensures.0
+
+pub returns-in_err-painted-in-Even-clause-flat : goal.returns-in_err-painted-in-Even-clause-flat
+returns-in_err-painted-in-Even-clause-flat g c = IfOk-from_err _ _ c.from_residual-in_err-painted-in-Even.ensures.0
+
+pub returns-in_err-painted-in-Even-clause-within : goal.returns-in_err-painted-in-Even-clause-within
+returns-in_err-painted-in-Even-clause-within g c = IfOk-from_err _ _ c.from_residual-in_err-painted-in-Even.ensures.0
+
+pub returns-in_err-painted-in-Even-clause-fits : goal.returns-in_err-painted-in-Even-clause-fits
+returns-in_err-painted-in-Even-clause-fits g c = λ some. IfOk-from_err _ _ c.from_residual-in_err-painted-in-Even.ensures.0
+
+pub returns-in_err-clash-in-Odd-clause-flat : goal.returns-in_err-clash-in-Odd-clause-flat
+returns-in_err-clash-in-Odd-clause-flat g c = IfOk-from_err _ _ c.from_residual-in_err-clash-in-Odd.ensures.0
+
+pub returns-in_err-clash-in-Odd-clause-within : goal.returns-in_err-clash-in-Odd-clause-within
+returns-in_err-clash-in-Odd-clause-within g c = IfOk-from_err _ _ c.from_residual-in_err-clash-in-Odd.ensures.0
+
+pub returns-in_err-clash-in-Odd-clause-fits : goal.returns-in_err-clash-in-Odd-clause-fits
+returns-in_err-clash-in-Odd-clause-fits g c = λ some. IfOk-from_err _ _ c.from_residual-in_err-clash-in-Odd.ensures.0

@@ -1,4 +1,5 @@
 use Rattle.std.proofs.Common.{[], List, ℕ, Option, Global, subst, sym}
+use Rattle.std.proofs.lemmas.Result.{IfOk-from_err}
 use Rattle.std.specs.Option.{option_copied}
 use Rattle.std.specs.Prelude.{IfSome, Vec}
 use Rattle.dpl_spec_split.specs.Graphs.{IsOddCycle, graph_of}
@@ -24,3 +25,15 @@ clash_by-requires-clause-odd c =
     let odd = subst (λ (o : Option (Vec ℕ Global)). IfSome o (λ cycle. IsOddCycle (graph_of c.args.edges.now) cycle.items)) c.in-Some.is c.in_ok-cycle.ensures.odd in
     let here = subst (λ (l : List ℕ). IsOddCycle (graph_of c.args.edges.now) l) (sym c.deref.ensures.value) odd in
     cycle_same (marks_in (option_copied c.args.marks)) c.args.spacing (cut_view [] c.args.cut.now.pieces) c.args.edges.now c.deref.result.now c.requires.edges here
+
+pub returns-in_err-count-clause-clash : goal.returns-in_err-count-clause-clash
+returns-in_err-count-clause-clash c = IfOk-from_err _ _ c.from_residual.ensures.0
+
+pub returns-in_err-count-clause-fits : goal.returns-in_err-count-clause-fits
+returns-in_err-count-clause-fits c = λ some. IfOk-from_err _ _ c.from_residual.ensures.0
+
+pub returns-in_err-cycle-clause-clash : goal.returns-in_err-cycle-clause-clash
+returns-in_err-cycle-clause-clash c = IfOk-from_err _ _ c.from_residual-in_err-cycle.ensures.0
+
+pub returns-in_err-cycle-clause-fits : goal.returns-in_err-cycle-clause-fits
+returns-in_err-cycle-clause-fits c = λ some. IfOk-from_err _ _ c.from_residual-in_err-cycle.ensures.0

@@ -1,4 +1,5 @@
 use Rattle.std.proofs.Common.{◌∙◌, ◌<◌, ◌^◌, ap, length, map, rules, subst, sym, List}
+use Rattle.std.proofs.lemmas.Result.{IfOk-from_err}
 use Rattle.std.specs.Option.{option_copied}
 use Rattle.std.specs.List.{AllByRecursion}
 use Rattle.dpl_cert.specs.declared.cert.PlaceLine.{PlaceLine}
@@ -36,3 +37,9 @@ returns-clause-fits c = λ some.
       nears ∙ sym places,
       subst (λ (ns : List NearLine). AllByRecursion IsNear ns) (sym c.of-2.ensures) c.in_ok-lines.ensures.near_within,
     )
+
+pub returns-in_err-lines-clause-clash : goal.returns-in_err-lines-clause-clash
+returns-in_err-lines-clause-clash c = IfOk-from_err _ _ c.from_residual.ensures.0
+
+pub returns-in_err-lines-clause-fits : goal.returns-in_err-lines-clause-fits
+returns-in_err-lines-clause-fits c = λ some. IfOk-from_err _ _ c.from_residual.ensures.0

@@ -1,4 +1,5 @@
 use Rattle.std.proofs.Common.{◌≡◌, ◌∙◌, ◌<◌, ◌^◌, ap, subst, sym, arith, rules, List, [], Bool, length, map}
+use Rattle.std.proofs.lemmas.Result.{IfOk-from_err}
 use Rattle.std.specs.Option.{option_copied}
 use Rattle.std.specs.List.{AllByRecursion, zip}
 use Rattle.std.proofs.lemmas.List.{length-map}
@@ -142,3 +143,57 @@ returns-clause-fits g c = λ some.
 
 pub returns-clause-within : goal.returns-clause-within
 returns-clause-within g c = c.in_ok-masks.ensures.within
+
+pub returns-in_err-colours-clause-painted : goal.returns-in_err-colours-clause-painted
+returns-in_err-colours-clause-painted g c = IfOk-from_err _ _ c.from_residual.ensures.0
+
+pub returns-in_err-colours-clause-within : goal.returns-in_err-colours-clause-within
+returns-in_err-colours-clause-within g c = IfOk-from_err _ _ c.from_residual.ensures.0
+
+pub returns-in_err-colours-clause-fits : goal.returns-in_err-colours-clause-fits
+returns-in_err-colours-clause-fits g c = λ some. IfOk-from_err _ _ c.from_residual.ensures.0
+
+pub returns-in_err-gains-clause-painted : goal.returns-in_err-gains-clause-painted
+returns-in_err-gains-clause-painted g c = IfOk-from_err _ _ c.from_residual-in_err-gains.ensures.0
+
+pub returns-in_err-gains-clause-within : goal.returns-in_err-gains-clause-within
+returns-in_err-gains-clause-within g c = IfOk-from_err _ _ c.from_residual-in_err-gains.ensures.0
+
+pub returns-in_err-gains-clause-fits : goal.returns-in_err-gains-clause-fits
+returns-in_err-gains-clause-fits g c = λ some. IfOk-from_err _ _ c.from_residual-in_err-gains.ensures.0
+
+pub returns-in_err-lines-clause-painted : goal.returns-in_err-lines-clause-painted
+returns-in_err-lines-clause-painted g c = IfOk-from_err _ _ c.from_residual-in_err-lines.ensures.0
+
+pub returns-in_err-lines-clause-within : goal.returns-in_err-lines-clause-within
+returns-in_err-lines-clause-within g c = IfOk-from_err _ _ c.from_residual-in_err-lines.ensures.0
+
+pub returns-in_err-lines-clause-fits : goal.returns-in_err-lines-clause-fits
+returns-in_err-lines-clause-fits g c = λ some. IfOk-from_err _ _ c.from_residual-in_err-lines.ensures.0
+
+pub returns-in_err-numbers-clause-painted : goal.returns-in_err-numbers-clause-painted
+returns-in_err-numbers-clause-painted g c = IfOk-from_err _ _ c.from_residual-in_err-numbers.ensures.0
+
+pub returns-in_err-numbers-clause-within : goal.returns-in_err-numbers-clause-within
+returns-in_err-numbers-clause-within g c = IfOk-from_err _ _ c.from_residual-in_err-numbers.ensures.0
+
+pub returns-in_err-numbers-clause-fits : goal.returns-in_err-numbers-clause-fits
+returns-in_err-numbers-clause-fits g c = λ some. IfOk-from_err _ _ c.from_residual-in_err-numbers.ensures.0
+
+pub returns-in_err-stitches-clause-painted : goal.returns-in_err-stitches-clause-painted
+returns-in_err-stitches-clause-painted g c = IfOk-from_err _ _ c.from_residual-in_err-stitches.ensures.0
+
+pub returns-in_err-stitches-clause-within : goal.returns-in_err-stitches-clause-within
+returns-in_err-stitches-clause-within g c = IfOk-from_err _ _ c.from_residual-in_err-stitches.ensures.0
+
+pub returns-in_err-stitches-clause-fits : goal.returns-in_err-stitches-clause-fits
+returns-in_err-stitches-clause-fits g c = λ some. IfOk-from_err _ _ c.from_residual-in_err-stitches.ensures.0
+
+pub returns-in_err-masks-clause-painted : goal.returns-in_err-masks-clause-painted
+returns-in_err-masks-clause-painted g c = IfOk-from_err _ _ c.from_residual-in_err-masks.ensures.0
+
+pub returns-in_err-masks-clause-within : goal.returns-in_err-masks-clause-within
+returns-in_err-masks-clause-within g c = IfOk-from_err _ _ c.from_residual-in_err-masks.ensures.0
+
+pub returns-in_err-masks-clause-fits : goal.returns-in_err-masks-clause-fits
+returns-in_err-masks-clause-fits g c = λ some. IfOk-from_err _ _ c.from_residual-in_err-masks.ensures.0

@@ -1,4 +1,5 @@
 use Rattle.std.proofs.Common.{◌≡◌, ◌+◌, ◌-◌, ◌∙◌, ◌++◌, ℕ, List, length, map, drop, take, ap, sym, subst, arith}
+use Rattle.std.proofs.lemmas.Result.{IfOk-from_err}
 use Rattle.std.proofs.lemmas.List.{drop-map, length-drop, length-map, take_all}
 use Rattle.dpl_orient.specs.declared.mask.Mask.{Mask}
 use Rattle.dpl_orient.specs.Masks.{is_second}
@@ -29,3 +30,15 @@ returns c =
     let kept : c.extend_from_slice.new.self.items ≡ drop 2 masks = c.in_ok-extend_from_slice.ensures.items
     ∙ (ap (λ (ms : List Mask). ms ++ take (length masks - 2) (drop 2 masks)) c.in_ok-letters.ensures.items ∙ all) in
     (colours, graph, c.of.ensures ∙ (ap (map is_second) kept ∙ (sym (drop-map is_second 2 masks) ∙ ap (drop 2) c.items-masks.ensures)))
+
+pub returns-in_err-moved : goal.returns-in_err-moved
+returns-in_err-moved c = IfOk-from_err _ _ c.from_residual.ensures.0
+
+pub returns-in_err-colours : goal.returns-in_err-colours
+returns-in_err-colours c = IfOk-from_err _ _ c.from_residual-in_err-colours.ensures.0
+
+pub returns-in_err-letters : goal.returns-in_err-letters
+returns-in_err-letters c = IfOk-from_err _ _ c.from_residual-in_err-letters.ensures.0
+
+pub returns-in_err-extend_from_slice : goal.returns-in_err-extend_from_slice
+returns-in_err-extend_from_slice c = IfOk-from_err _ _ c.from_residual-in_err-extend_from_slice.ensures.0

@@ -1,4 +1,4 @@
-use Rattle.std.proofs.lemmas.Result.{IfOk-weaker}
+use Rattle.std.proofs.lemmas.Result.{IfOk-weaker, IfOk-from_err}
 use Rattle.dpl_answer.proofs.Reducing.{many-first, many-last, reduced, unreduced}
 use Rattle.dpl_answer.proofs.colours.vertex_colours.Goals as goal
 
@@ -16,3 +16,9 @@ returns-clause-colours c =
 
 pub returns-clause-each : goal.returns-clause-each
 returns-clause-each c = many-first c.args.joined.now c.args.n c.args.sides.now c.in_ok-first.first c.in_ok-first.ensures.colours
+
+pub returns-in_err-first-clause-colours : goal.returns-in_err-first-clause-colours
+returns-in_err-first-clause-colours c = IfOk-from_err _ _ c.from_residual.ensures.0
+
+pub returns-in_err-first-clause-each : goal.returns-in_err-first-clause-each
+returns-in_err-first-clause-each c = IfOk-from_err _ _ c.from_residual.ensures.0

@@ -1,4 +1,5 @@
 use Rattle.std.proofs.Common.{ℕ, List, [], subst, sym}
+use Rattle.std.proofs.lemmas.Result.{IfOk-from_err}
 use Rattle.std.specs.Prelude.{Option, option_map}
 use Rattle.dpl_spec_split.specs.Graphs.{AreEdges}
 use Rattle.dpl_spec_split.specs.Marks.{graph}
@@ -27,3 +28,9 @@ returns-in_ok-edges-in-Odd-2 c = λ marks fixed sums.
     let cut = cut_view [] (cut_pieces plan.parts plan.owners [] [] []) in
     let here : AreEdges (graph marks plan.spacing plan.parts plan.owners) edges = rw c.in_ok-edges-in-Odd-2.ensures all in
     (here, edges_below marks plan.spacing cut edges here, odd_listed marks plan.spacing cut edges (rw c.in-Odd.is at sums) here)
+
+pub returns-in_err-edges-in-Odd : goal.returns-in_err-edges-in-Odd
+returns-in_err-edges-in-Odd c = λ marks are sums. IfOk-from_err _ _ c.from_residual.ensures.0
+
+pub returns-in_err-edges-in-Odd-2 : goal.returns-in_err-edges-in-Odd-2
+returns-in_err-edges-in-Odd-2 c = λ marks are sums. IfOk-from_err _ _ c.from_residual-in_err-edges-in-Odd-2.ensures.0

@@ -1,6 +1,6 @@
 use Rattle.std.proofs.Common.{List, subst, sym}
 use Rattle.std.specs.Option.{option_copied}
-use Rattle.std.proofs.lemmas.Result.{IfOk-weaker}
+use Rattle.std.proofs.lemmas.Result.{IfOk-weaker, IfOk-from_err}
 use Rattle.dpl_spec_split.specs.declared.Rect.{Rect}
 use Rattle.dpl_tile.proofs.TileLaws.{doubled-some}
 use Rattle.dpl_answer.specs.Anchors.{AreMarkEdges, marks_in}
@@ -23,3 +23,9 @@ returns g c =
     let fixed : AreMarkEdges marks job.plan.parts job.marked = subst (λ (ps : List (List Rect)). AreMarkEdges marks ps job.marked) (sym plan.2.of_parts) c.in_ok-job.ensures.marked in
     IfOk-weaker c.conflicts_by.result _ _ (λ conflicts are. conflicts_planned bare.parts bare.owners c.args.spacing plan.0 job.plan marks conflicts plan.2 are)
     (c.conflicts_by.ensures marks fixed (c.in_ok-joined.ensures marks fixed))
+
+pub returns-in_err-job : goal.returns-in_err-job
+returns-in_err-job g c = IfOk-from_err _ _ c.from_residual.ensures.0
+
+pub returns-in_err-joined : goal.returns-in_err-joined
+returns-in_err-joined g c = IfOk-from_err _ _ c.from_residual-in_err-joined.ensures.0

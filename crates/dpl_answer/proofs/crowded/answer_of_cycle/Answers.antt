@@ -1,4 +1,5 @@
 use Rattle.std.proofs.Common.{◌∙◌, List, ℕ, subst, sym}
+use Rattle.std.proofs.lemmas.Result.{IfOk-from_err}
 use Rattle.std.specs.Option.{option_copied}
 use Rattle.dpl_spec_split.specs.declared.Rect.{Rect}
 use Rattle.dpl_spec_split.specs.Cycle.{IsReported}
@@ -30,3 +31,21 @@ returns-clause-flat c = λ fewer. (
   c.in_ok-cut.ensures.pieces,
   λ features many. c.in_ok-clash.ensures.clash features (many ∙ sym c.in_ok-cut.ensures.features),
 )
+
+pub returns-in_err-cut-clause-flat : goal.returns-in_err-cut-clause-flat
+returns-in_err-cut-clause-flat c = IfOk-from_err _ _ c.from_residual.ensures.0
+
+pub returns-in_err-cut-clause-within : goal.returns-in_err-cut-clause-within
+returns-in_err-cut-clause-within c = IfOk-from_err _ _ c.from_residual.ensures.0
+
+pub returns-in_err-cut-clause-fits : goal.returns-in_err-cut-clause-fits
+returns-in_err-cut-clause-fits c = λ some. IfOk-from_err _ _ c.from_residual.ensures.0
+
+pub returns-in_err-clash-clause-flat : goal.returns-in_err-clash-clause-flat
+returns-in_err-clash-clause-flat c = IfOk-from_err _ _ c.from_residual-in_err-clash.ensures.0
+
+pub returns-in_err-clash-clause-within : goal.returns-in_err-clash-clause-within
+returns-in_err-clash-clause-within c = IfOk-from_err _ _ c.from_residual-in_err-clash.ensures.0
+
+pub returns-in_err-clash-clause-fits : goal.returns-in_err-clash-clause-fits
+returns-in_err-clash-clause-fits c = λ some. IfOk-from_err _ _ c.from_residual-in_err-clash.ensures.0

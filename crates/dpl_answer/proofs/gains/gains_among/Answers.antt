@@ -1,4 +1,5 @@
 use Rattle.std.proofs.Common.{ℕ, List, [], length, ap, ◌∙◌, sym, subst}
+use Rattle.std.proofs.lemmas.Result.{IfOk-from_err}
 use Rattle.std.specs.Prelude.{None, Some}
 use Rattle.dpl_spec_split.proofs.MarkLaws.{none-marked}
 use Rattle.dpl_spec_verdict.specs.Gains.{AreRootsOf}
@@ -30,3 +31,9 @@ returns-in_ok-roots-in-None c = λ features.
 
 pub returns-in_ok-marked-in-Some : goal.returns-in_ok-marked-in-Some
 returns-in_ok-marked-in-Some c = λ features. rw c.in-Some.is (c.gains_of.ensures features (Some (marks_of c.in-Some.sets.now)) (λ p. c.in_ok-marked-in-Some.ensures.covers p))
+
+pub returns-in_err-roots-in-None : goal.returns-in_err-roots-in-None
+returns-in_err-roots-in-None c = λ features. IfOk-from_err _ _ c.from_residual.ensures.0
+
+pub returns-in_err-marked-in-Some : goal.returns-in_err-marked-in-Some
+returns-in_err-marked-in-Some c = λ features. IfOk-from_err _ _ c.from_residual-in_err-marked-in-Some.ensures.0

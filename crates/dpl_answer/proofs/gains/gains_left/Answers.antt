@@ -1,4 +1,5 @@
 use Rattle.std.proofs.Common.{◌∙◌, List, Bool, length, map, ap, sym, subst}
+use Rattle.std.proofs.lemmas.Result.{IfOk-from_err}
 use Rattle.std.proofs.lemmas.List.{length-map}
 use Rattle.std.specs.Option.{option_copied}
 use Rattle.dpl_spec_verdict.specs.Gains.{AreGainsOf}
@@ -18,3 +19,9 @@ returns c = λ features.
     let found = c.in_ok-gains.ensures features in
     let lettered = subst (λ (ls : List Bool). AreGainsOf marks c.args.spacing cut ls c.in_ok-gains.gains.items) (c.deref.ensures.value ∙ c.in_ok-letters.ensures) found in
     subst (λ (gs : List Gain). AreGainsOf marks c.args.spacing cut (map is_second c.args.masks.now) gs) (sym c.of.ensures) lettered
+
+pub returns-in_err-letters : goal.returns-in_err-letters
+returns-in_err-letters c = IfOk-from_err _ _ c.from_residual.ensures.0
+
+pub returns-in_err-gains : goal.returns-in_err-gains
+returns-in_err-gains c = IfOk-from_err _ _ c.from_residual-in_err-gains.ensures.0

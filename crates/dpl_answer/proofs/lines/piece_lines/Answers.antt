@@ -1,4 +1,5 @@
 use Rattle.std.proofs.Common.{◌<◌, length, ◌∙◌, sym, map, arith}
+use Rattle.std.proofs.lemmas.Result.{IfOk-from_err}
 use Rattle.std.proofs.lemmas.List.{get_or-map, length-map}
 use Rattle.dpl_orient.specs.Masks.{is_second}
 use Rattle.dpl_cert.specs.Grammar.{IsPiece}
@@ -23,3 +24,15 @@ loop-i-preserved c =
           (c.key.ensures.value key) c.loop-i.invariant.put put;
       fits = rw put (fits_push IsPiece _ _ c.loop-i.invariant.fits (key_within keys c.requires.within c.loop-i.i key c.key.ensures.value));
     }
+
+pub returns-in_err-lines-clause-lines : goal.returns-in_err-lines-clause-lines
+returns-in_err-lines-clause-lines c = IfOk-from_err _ _ c.from_residual.ensures.0
+
+pub returns-in_err-lines-clause-within : goal.returns-in_err-lines-clause-within
+returns-in_err-lines-clause-within c = IfOk-from_err _ _ c.from_residual.ensures.0
+
+pub returns-in_err-push-clause-lines : goal.returns-in_err-push-clause-lines
+returns-in_err-push-clause-lines c = IfOk-from_err _ _ c.from_residual-in_err-push.ensures.0
+
+pub returns-in_err-push-clause-within : goal.returns-in_err-push-clause-within
+returns-in_err-push-clause-within c = IfOk-from_err _ _ c.from_residual-in_err-push.ensures.0

@@ -1,4 +1,5 @@
 use Rattle.std.proofs.Common.{◌<◌, ◌∙◌, ◌++◌, ◌∷◌, [], length, arith, rules, get_or, ap, sym}
+use Rattle.std.proofs.lemmas.Result.{IfOk-from_err}
 use Rattle.std.proofs.lemmas.List.Elements.{Contains-get_or}
 use Rattle.std.specs.Prelude.{pos}
 use Rattle.dpl_spec_split.specs.declared.Pt.{Pt}
@@ -26,3 +27,9 @@ loop-piece-preserved c =
       fits = rw c.in_ok-push.ensures.items (fits_push IsPlace _ _ c.loop-piece.invariant.fits
           (search rules, c.requires.within key (k, known, c.key.ensures.value key)));
     }
+
+pub returns-in_err-push-clause-lines : goal.returns-in_err-push-clause-lines
+returns-in_err-push-clause-lines c = IfOk-from_err _ _ c.from_residual.ensures.0
+
+pub returns-in_err-push-clause-within : goal.returns-in_err-push-clause-within
+returns-in_err-push-clause-within c = IfOk-from_err _ _ c.from_residual.ensures.0

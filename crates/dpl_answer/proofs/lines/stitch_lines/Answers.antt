@@ -1,4 +1,5 @@
 use Rattle.std.proofs.Common.{◌<◌, length, arith, rules, get_or}
+use Rattle.std.proofs.lemmas.Result.{IfOk-from_err}
 use Rattle.std.proofs.lemmas.List.Elements.{Contains-get_or}
 use Rattle.dpl_cert.specs.Grammar.{IsStitch}
 use Rattle.dpl_law_verdict.specs.Own.{stitch_line, no_zone}
@@ -42,3 +43,9 @@ loop-k-preserved c =
             q = (c.requires.numbers k (0, 0) known).1;
           }));
     }
+
+pub returns-in_err-push-clause-lines : goal.returns-in_err-push-clause-lines
+returns-in_err-push-clause-lines c = IfOk-from_err _ _ c.from_residual.ensures.0
+
+pub returns-in_err-push-clause-within : goal.returns-in_err-push-clause-within
+returns-in_err-push-clause-within c = IfOk-from_err _ _ c.from_residual.ensures.0

@@ -1,4 +1,5 @@
 use Rattle.std.proofs.Common.{◌≡◌, ◌∙◌, ◌++◌, ◌∷◌, [], List, ap, append_assoc, arith, get_or, length, length-append, rules, subst, sym}
+use Rattle.std.proofs.lemmas.Result.{IfOk-from_err}
 use Rattle.std.specs.List.{AllZip}
 use Rattle.std.proofs.lemmas.Slice.Zip.{AllZip-long, all_zipped_more}
 use Rattle.dpl_answer.specs.Many.{AreConflictsFrom, IsToldBy}
@@ -34,3 +35,9 @@ returns c =
     let none : length c.loop-start.start-iterator.rest.items ≡ 0 = search rules in
     let all = none_left c.loop-start.yielded c.loop-start.start-iterator.rest.items c.args.starts.items c.loop-start.invariant.0 none in
     subst (λ (l : List Start). AllZip AreConflictsFrom l c.loop-start.all.items) all c.loop-start.invariant.2
+
+pub returns-in_err-found : goal.returns-in_err-found
+returns-in_err-found c = IfOk-from_err _ _ c.from_residual.ensures.0
+
+pub returns-in_err-push : goal.returns-in_err-push
+returns-in_err-push c = IfOk-from_err _ _ c.from_residual-in_err-push.ensures.0

@@ -1,5 +1,5 @@
 use Rattle.std.proofs.Common.{None, subst, sym}
-use Rattle.std.proofs.lemmas.Result.{IfOk-weaker}
+use Rattle.std.proofs.lemmas.Result.{IfOk-weaker, IfOk-from_err}
 use Rattle.dpl_spec_split.specs.Marks.{graph}
 use Rattle.dpl_stars.specs.declared.joined.Joined.{Joined}
 use Rattle.dpl_answer.specs.Conflicts.{SumsGraph}
@@ -17,3 +17,6 @@ returns-in_ok-joined-in-Tiled c = λ spacing cut starts.
     (board_sums spacing cut job c.args.board.now c.joined.result.now is told c.joined.ensures) in
     IfOk-weaker c.conflicts_by.result _ _ (λ conflicts are. conflicts_planned bare.parts bare.owners spacing is.0.0 job.plan None conflicts is.0.2 are)
     (c.conflicts_by.ensures None (unmarked_job spacing cut job is) sums)
+
+pub returns-in_err-joined-in-Tiled : goal.returns-in_err-joined-in-Tiled
+returns-in_err-joined-in-Tiled c = λ spacing cut is. IfOk-from_err _ _ c.from_residual.ensures.0

@@ -1,4 +1,5 @@
 use Rattle.std.proofs.Common.{◌≡◌, ◌+◌, ◌%◌, ◌∷◌, [], List, length, get_or, sym, ap, ◌∙◌, subst, arith}
+use Rattle.std.proofs.lemmas.Result.{IfOk-from_err}
 use Rattle.std.proofs.lemmas.List.{length-append}
 use Rattle.dpl_spec_split.specs.declared.Rect.{Rect}
 use Rattle.dpl_spec_split.specs.Squares.{AreNear}
@@ -32,3 +33,15 @@ loop-k-preserved c =
           c.in_ok-line.ensures.nearest);
       fits = rw c.in_ok-push.ensures.items (fits_push IsNear _ _ c.loop-k.invariant.fits c.in_ok-line.ensures.within);
     }
+
+pub returns-in_err-line-clause-nearest : goal.returns-in_err-line-clause-nearest
+returns-in_err-line-clause-nearest c = IfOk-from_err _ _ c.from_residual.ensures.0
+
+pub returns-in_err-line-clause-within : goal.returns-in_err-line-clause-within
+returns-in_err-line-clause-within c = IfOk-from_err _ _ c.from_residual.ensures.0
+
+pub returns-in_err-push-clause-nearest : goal.returns-in_err-push-clause-nearest
+returns-in_err-push-clause-nearest c = IfOk-from_err _ _ c.from_residual-in_err-push.ensures.0
+
+pub returns-in_err-push-clause-within : goal.returns-in_err-push-clause-within
+returns-in_err-push-clause-within c = IfOk-from_err _ _ c.from_residual-in_err-push.ensures.0

@@ -1,4 +1,5 @@
 use Rattle.std.proofs.Common.{◌≡◌, ◌+◌, ◌%◌, ◌∷◌, [], List, length, get_or, sym, ap, ◌∙◌, subst, arith}
+use Rattle.std.proofs.lemmas.Result.{IfOk-from_err}
 use Rattle.std.proofs.lemmas.List.{length-append}
 use Rattle.dpl_spec_split.specs.declared.Rect.{Rect}
 use Rattle.dpl_cert.specs.Grammar.{IsNear}
@@ -37,3 +38,15 @@ loop-k-preserved c =
           (subst (λ (ps : List (List Rect)). ShowsLink m c.args.spacing ps c.of-from.result c.of-to.result line) same c.in_ok-line.ensures.link)));
       fits = rw c.in_ok-push.ensures.items (fits_push IsNear _ _ c.loop-k.invariant.fits c.in_ok-line.ensures.within);
     }
+
+pub returns-in_err-line-clause-links : goal.returns-in_err-line-clause-links
+returns-in_err-line-clause-links c = IfOk-from_err _ _ c.from_residual.ensures.0
+
+pub returns-in_err-line-clause-within : goal.returns-in_err-line-clause-within
+returns-in_err-line-clause-within c = IfOk-from_err _ _ c.from_residual.ensures.0
+
+pub returns-in_err-push-clause-links : goal.returns-in_err-push-clause-links
+returns-in_err-push-clause-links c = IfOk-from_err _ _ c.from_residual-in_err-push.ensures.0
+
+pub returns-in_err-push-clause-within : goal.returns-in_err-push-clause-within
+returns-in_err-push-clause-within c = IfOk-from_err _ _ c.from_residual-in_err-push.ensures.0

@@ -1,4 +1,5 @@
 use Rattle.std.proofs.Common.{refl, subst, List, arith}
+use Rattle.std.proofs.lemmas.Result.{IfOk-from_err}
 use Rattle.dpl_spec_split.specs.declared.Rect.{Rect}
 use Rattle.dpl_spec_split.specs.Squares.{Covers}
 use Rattle.dpl_spec_split.specs.Loops.{AreRectsWithin, farthest}
@@ -24,3 +25,9 @@ pub returns-clause-within : goal.returns-clause-within
 returns-clause-within c =
     let within = subst (λ (rs : List Rect). AreRectsWithin farthest rs) c.common.view_is c.common.invariant.1 in
     point_fits c.in_ok-common.common c.in-Some.at within c.in-Some.ensures.some.inside
+
+pub returns-in_err-common-clause-least : goal.returns-in_err-common-clause-least
+returns-in_err-common-clause-least c = IfOk-from_err _ _ c.from_residual.ensures.0
+
+pub returns-in_err-common-clause-within : goal.returns-in_err-common-clause-within
+returns-in_err-common-clause-within c = IfOk-from_err _ _ c.from_residual.ensures.0

@@ -1,4 +1,5 @@
 use Rattle.std.proofs.Common.{◌<◌, ◌∙◌, ◌++◌, ◌∷◌, [], ℕ, length, arith, ap}
+use Rattle.std.proofs.lemmas.Result.{IfOk-from_err}
 use Rattle.std.proofs.lemmas.List.Elements.{Contains-get_or}
 use Rattle.dpl_cert.specs.Grammar.{IsPlace}
 use Rattle.dpl_cert.specs.declared.cert.PlaceLine.{PlaceLine}
@@ -20,3 +21,9 @@ loop-number-preserved c =
           (c.in_ok-push.ensures.items ∙ ap (λ (p : PlaceLine). c.loop-number.lines.items ++ p ∷ []) is);
       fits = rw c.in_ok-push.ensures.items (fits_push IsPlace _ _ c.loop-number.invariant.fits c.vertex_line.ensures.within);
     }
+
+pub returns-in_err-push-clause-lines : goal.returns-in_err-push-clause-lines
+returns-in_err-push-clause-lines c = IfOk-from_err _ _ c.from_residual.ensures.0
+
+pub returns-in_err-push-clause-within : goal.returns-in_err-push-clause-within
+returns-in_err-push-clause-within c = IfOk-from_err _ _ c.from_residual.ensures.0
