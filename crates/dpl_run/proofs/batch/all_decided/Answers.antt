@@ -1,4 +1,5 @@
 use Rattle.std.proofs.Common.{◌≡◌, ◌∙◌, ◌++◌, ◌<◌, ◌∷◌, [], append_assoc, arith, length, length-append, length-take-le, rules, take}
+use Rattle.std.proofs.lemmas.Result.{IfOk-from_err}
 use Rattle.std.proofs.lemmas.List.{take_more}
 use Rattle.dpl_words.specs.Meaning.{batch_view}
 use Rattle.dpl_run.proofs.Together.{decided_next}
@@ -19,3 +20,9 @@ loop-decision-preserved g c =
       rw (take_more layers at c.index-layer.result.now within, ← c.index-layer.ensures)
           (decided_next (batch_view c.args.options.now) (take at layers) met _ c.in-Some.decision _ _ _ many c.loop-decision.invariant.2 c.in_ok-one.ensures c.in_ok-add.ensures),
     )
+
+pub returns-in_err-one : goal.returns-in_err-one
+returns-in_err-one g c = IfOk-from_err _ _ c.from_residual.ensures.0
+
+pub returns-in_err-add : goal.returns-in_err-add
+returns-in_err-add g c = IfOk-from_err _ _ c.from_residual-in_err-add.ensures.0

@@ -1,4 +1,4 @@
-use Rattle.std.proofs.lemmas.Result.{IfOk-weaker}
+use Rattle.std.proofs.lemmas.Result.{IfOk-weaker, IfOk-from_err}
 use Rattle.std.proofs.Common.{subst}
 use Rattle.dpl_spec_verdict.specs.Conflicts.{IsOfConflict, IsVerdictOfConflict}
 use Rattle.dpl_words.specs.Meaning.{check_view}
@@ -33,3 +33,6 @@ pub returns-in-Fault : goal.returns-in-Fault
 returns-in-Fault c = IfOk-weaker c.judged-in-Fault.result _ _
     (λ x is out. fault_checked (check_view c.args.options.now) (marks_with (check_view c.args.options.now) c.args.layer.now) c.args.layer.now.slabs out c.args.cert.now c.in-Fault.name c.in-Fault.at
     (output_view x) c.in-Fault.is is) c.judged-in-Fault.ensures
+
+pub returns-in_err-verdict-in-Conflict : goal.returns-in_err-verdict-in-Conflict
+returns-in_err-verdict-in-Conflict c = IfOk-from_err _ _ c.from_residual.ensures.0

@@ -1,5 +1,5 @@
 use Rattle.std.proofs.Common.{subst, List, ℕ}
-use Rattle.std.proofs.lemmas.Result.{IfOk-weaker}
+use Rattle.std.proofs.lemmas.Result.{IfOk-weaker, IfOk-from_err}
 use Rattle.dpl_words.specs.Meaning.{check_view}
 use Rattle.dpl_run.specs.Check.{mask_choice}
 use Rattle.dpl_layer.specs.Reading.{Choice, Faulty, IsLayout, Layer}
@@ -52,3 +52,6 @@ returns c =
     IfOk-weaker c.judged.result _ _
     (λ x h. masks_judged v (marks_with v c.args.layer.now) c.args.layer.now.slabs c.args.cert.now bytes a.copied.items b.copied.items a.slabs b.slabs c.in_ok-verdict.verdict
     (output_view x) c.requires.size first second said h) c.judged.ensures
+
+pub returns-in_err-verdict : goal.returns-in_err-verdict
+returns-in_err-verdict c = IfOk-from_err _ _ c.from_residual.ensures.0

@@ -1,6 +1,6 @@
 use Rattle.std.proofs.Common.{subst, Option, List, ℕ, Global}
 use Rattle.std.specs.Prelude.{Vec, option_map}
-use Rattle.std.proofs.lemmas.Result.{IfOk-weaker}
+use Rattle.std.proofs.lemmas.Result.{IfOk-weaker, IfOk-from_err}
 use Rattle.dpl_host.specs.Outside.{Outside}
 use Rattle.dpl_cert.specs.Grammar.{IsText}
 use Rattle.dpl_parse.specs.Reading.{IsBadLine, IsRefusal}
@@ -46,3 +46,12 @@ returns-in-Ok-clause-calls g c =
     let seen = subst (λ (o : Option (Vec ℕ Global)). IsSeen told c.args.options.now.certificate.now (option_map (λ v. v.items) o)) c.in-Some.is c.in_ok-text.ensures.seen in
     let read = subst (λ (b : List ℕ). IsText c.in-Ok.cert b) c.as_slice.ensures.value c.in-Ok.ensures.found in
     cert_and_out (check_view c.args.options.now) text c.in-Ok.cert seen read c.in_ok-text.ensures.calls c.check_cert.ensures.calls
+
+pub returns-in_err-text-clause-made : goal.returns-in_err-text-clause-made
+returns-in_err-text-clause-made g c = IfOk-from_err _ _ c.from_residual.ensures.0
+
+pub returns-in_err-too_large-clause-made : goal.returns-in_err-too_large-clause-made
+returns-in_err-too_large-clause-made g c = IfOk-from_err _ _ c.from_residual-in_err-too_large.ensures.0
+
+pub returns-in_err-bad_line-in-Err-BadLine-clause-made : goal.returns-in_err-bad_line-in-Err-BadLine-clause-made
+returns-in_err-bad_line-in-Err-BadLine-clause-made g c = IfOk-from_err _ _ c.from_residual-in_err-bad_line-in-Err-BadLine.ensures.0

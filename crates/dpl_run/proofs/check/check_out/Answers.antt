@@ -1,4 +1,5 @@
 use Rattle.std.proofs.Common.{subst, Option, ℕ, Global}
+use Rattle.std.proofs.lemmas.Result.{IfOk-from_err}
 use Rattle.std.specs.Prelude.{Vec, option_map}
 use Rattle.dpl_words.specs.Meaning.{check_view}
 use Rattle.dpl_run.specs.Program.{IsSeen}
@@ -18,3 +19,12 @@ returns-clause-made g c =
     let v = check_view c.args.options.now in
     let seen = subst (λ (o : Option (Vec ℕ Global)). IsSeen told c.args.options.now.output.now (option_map (λ v. v.items) o)) c.in-Some.is c.in_ok-bytes.ensures.seen in
     out_read told v (marks_with v c.args.layer.now) c.args.layer.now.slabs c.args.cert.now c.in-Some.bytes.items _ c.requires.kind seen c.in_ok-check_bytes.ensures
+
+pub returns-in_err-bytes-clause-made : goal.returns-in_err-bytes-clause-made
+returns-in_err-bytes-clause-made g c = IfOk-from_err _ _ c.from_residual.ensures.0
+
+pub returns-in_err-too_large-clause-made : goal.returns-in_err-too_large-clause-made
+returns-in_err-too_large-clause-made g c = IfOk-from_err _ _ c.from_residual-in_err-too_large.ensures.0
+
+pub returns-in_err-check_bytes-clause-made : goal.returns-in_err-check_bytes-clause-made
+returns-in_err-check_bytes-clause-made g c = IfOk-from_err _ _ c.from_residual-in_err-check_bytes.ensures.0

@@ -1,6 +1,6 @@
 use Rattle.std.proofs.Common.{subst, Option, ℕ, Global}
 use Rattle.std.specs.Prelude.{Vec, option_map}
-use Rattle.std.proofs.lemmas.Result.{IfOk-weaker}
+use Rattle.std.proofs.lemmas.Result.{IfOk-weaker, IfOk-from_err}
 use Rattle.dpl_host.specs.Calls.{Logged}
 use Rattle.dpl_host.specs.Outside.{Outside}
 use Rattle.dpl_words.specs.Meaning.{check_view}
@@ -65,3 +65,12 @@ check_layer-requires-clause-marks g c =
     let layer = c.in-Ok.layer in
     let read : IsMarkedLayout (check_marked v) c.in-Some.bytes.items (MarkedLayer layer.copied.items layer.slabs layer.mark_a layer.mark_b) = rw c.choice_of.ensures at c.in-Ok.ensures.layer in
     are_marks (check_marked v) c.in-Some.bytes.items layer.copied.items layer.slabs layer.mark_a layer.mark_b read
+
+pub returns-in_err-bytes-clause-made : goal.returns-in_err-bytes-clause-made
+returns-in_err-bytes-clause-made g c = IfOk-from_err _ _ c.from_residual.ensures.0
+
+pub returns-in_err-too_large-clause-made : goal.returns-in_err-too_large-clause-made
+returns-in_err-too_large-clause-made g c = IfOk-from_err _ _ c.from_residual-in_err-too_large.ensures.0
+
+pub returns-in_err-refused-in-Err-Refused-clause-made : goal.returns-in_err-refused-in-Err-Refused-clause-made
+returns-in_err-refused-in-Err-Refused-clause-made g c = IfOk-from_err _ _ c.from_residual-in_err-refused-in-Err-Refused.ensures.0

@@ -1,4 +1,4 @@
-use Rattle.std.proofs.lemmas.Result.{IfOk-weaker}
+use Rattle.std.proofs.lemmas.Result.{IfOk-weaker, IfOk-from_err}
 use Rattle.dpl_words.specs.Meaning.{demo_view}
 use Rattle.dpl_decide.specs.View.{decision_view}
 use Rattle.dpl_run.specs.View.{output_view}
@@ -11,3 +11,9 @@ returns g c =
     IfOk-weaker c.shown.result _ _
     (λ x is. demo_decided (demo_view c.args.options.now) c.in_ok-bytes.bytes.items (decision_view c.in_ok-decision.decision)
     (output_view x) c.in_ok-bytes.ensures.bytes decision is) c.shown.ensures
+
+pub returns-in_err-bytes : goal.returns-in_err-bytes
+returns-in_err-bytes g c = IfOk-from_err _ _ c.from_residual.ensures.0
+
+pub returns-in_err-decision : goal.returns-in_err-decision
+returns-in_err-decision g c = IfOk-from_err _ _ c.from_residual-in_err-decision.ensures.0

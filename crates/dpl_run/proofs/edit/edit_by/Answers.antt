@@ -1,5 +1,5 @@
 use Rattle.std.proofs.Common.{◌≡◌, ◌∙◌, ap, subst, List}
-use Rattle.std.proofs.lemmas.Result.{IfOk-weaker}
+use Rattle.std.proofs.lemmas.Result.{IfOk-weaker, IfOk-from_err}
 use Rattle.dpl_spec_split.specs.Slabs.{AreSlabsOf}
 use Rattle.dpl_spec_split.specs.Squares.{Covers}
 use Rattle.dpl_spec_edits.specs.declared.Edit.{Edit}
@@ -32,3 +32,9 @@ returns g c =
       rw (fewer, spacing, overlap) at c.in_ok-answer.ensures.flat,
       subst (λ (w : SplitValues). output_view x ≡ plan_of w (Decides c.args.layer.copied.items flat)) split is,
     )) c.decided.ensures
+
+pub returns-in_err-after : goal.returns-in_err-after
+returns-in_err-after g c = IfOk-from_err _ _ c.from_residual.ensures.0
+
+pub returns-in_err-answer : goal.returns-in_err-answer
+returns-in_err-answer g c = IfOk-from_err _ _ c.from_residual-in_err-answer.ensures.0

@@ -1,4 +1,5 @@
 use Rattle.std.proofs.Common.{subst, Option, List, ℕ, Global}
+use Rattle.std.proofs.lemmas.Result.{IfOk-from_err}
 use Rattle.std.specs.Prelude.{Vec, option_map}
 use Rattle.dpl_spec_edits.specs.Text.{IsEdit, IsFirstBad, IsListed}
 use Rattle.dpl_edits.specs.Reading.{IsRefusal}
@@ -37,3 +38,15 @@ returns-in-Err-BadLine-clause-made g c =
     let refusal = subst (λ (e : EditsFault). IsRefusal c.as_slice.result.now e) c.in-Err-BadLine.field-0-is c.in-Err-BadLine.ensures.line in
     let bad = subst (λ (b : List ℕ). IsFirstBad b c.in-Err-BadLine.line) c.as_slice.ensures.value refusal in
     edits_bad told (edit_view c.args.options.now) layer.copied.items layer.slabs text c.in-Err-BadLine.line _ seen bad c.in_ok-bad_line-in-Err-BadLine.ensures
+
+pub returns-in_err-text-clause-made : goal.returns-in_err-text-clause-made
+returns-in_err-text-clause-made g c = IfOk-from_err _ _ c.from_residual.ensures.0
+
+pub returns-in_err-too_large-clause-made : goal.returns-in_err-too_large-clause-made
+returns-in_err-too_large-clause-made g c = IfOk-from_err _ _ c.from_residual-in_err-too_large.ensures.0
+
+pub returns-in_err-edit_by-in-Ok-clause-made : goal.returns-in_err-edit_by-in-Ok-clause-made
+returns-in_err-edit_by-in-Ok-clause-made g c = IfOk-from_err _ _ c.from_residual-in_err-edit_by-in-Ok.ensures.0
+
+pub returns-in_err-bad_line-in-Err-BadLine-clause-made : goal.returns-in_err-bad_line-in-Err-BadLine-clause-made
+returns-in_err-bad_line-in-Err-BadLine-clause-made g c = IfOk-from_err _ _ c.from_residual-in_err-bad_line-in-Err-BadLine.ensures.0

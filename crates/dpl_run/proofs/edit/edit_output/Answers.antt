@@ -1,6 +1,6 @@
 use Rattle.std.proofs.Common.{◌≡◌, ◌∙◌, ap, subst, Option, ℕ, Global}
 use Rattle.std.specs.Prelude.{Vec, option_map}
-use Rattle.std.proofs.lemmas.Result.{IfOk-weaker}
+use Rattle.std.proofs.lemmas.Result.{IfOk-weaker, IfOk-from_err}
 use Rattle.dpl_host.specs.Outside.{Outside}
 use Rattle.dpl_words.specs.Meaning.{SplitValues, edit_view}
 use Rattle.dpl_cert.specs.declared.name.Name.TheVariants.{TooLarge}
@@ -63,3 +63,12 @@ returns-in-Ok-clause-calls g c =
     (c.order_of-order.ensures.choice ∙ ap split_marked c.split_by-split.ensures) in
     let read : IsLayout (edit_choice v) c.in-Some.bytes.items (Layer layer.copied.items layer.slabs) = rw chosen at c.in-Ok.ensures.layer in
     layout_and_edits v c.in-Some.bytes.items layer.copied.items layer.slabs seen read c.in_ok-bytes.ensures.calls c.edit_layer.ensures.calls
+
+pub returns-in_err-bytes-clause-made : goal.returns-in_err-bytes-clause-made
+returns-in_err-bytes-clause-made g c = IfOk-from_err _ _ c.from_residual.ensures.0
+
+pub returns-in_err-fault_output-clause-made : goal.returns-in_err-fault_output-clause-made
+returns-in_err-fault_output-clause-made g c = IfOk-from_err _ _ c.from_residual-in_err-fault_output.ensures.0
+
+pub returns-in_err-fault_output-in-Err-Refused-clause-made : goal.returns-in_err-fault_output-in-Err-Refused-clause-made
+returns-in_err-fault_output-in-Err-Refused-clause-made g c = IfOk-from_err _ _ c.from_residual-in_err-fault_output-in-Err-Refused.ensures.0
