@@ -1,6 +1,6 @@
 use Rattle.std.proofs.Common.{◌∙◌, sym}
 use Rattle.std.specs.Prelude.{None}
-use Rattle.std.proofs.lemmas.Result.{IfOk-weaker}
+use Rattle.std.proofs.lemmas.Result.{IfOk-weaker, IfOk-from_err}
 use Rattle.dpl_answer.proofs.Planned.{conflicts_completed}
 use Rattle.dpl_piece.specs.View.{cut_view}
 use Rattle.dpl_view.proofs.ViewLaws.{even_none, even_clashes}
@@ -34,3 +34,6 @@ returns c = IfOk-weaker c.odd_clashes.result _ _
       λ features many. are features (many ∙ sym c.in_ok-cut.ensures.features),
     ))
     c.odd_clashes.ensures
+
+pub returns-in_err-cut : goal.returns-in_err-cut
+returns-in_err-cut c = IfOk-from_err _ _ c.from_residual.ensures.0

@@ -1,4 +1,5 @@
 use Rattle.std.proofs.Common.{ℕ, List, [], subst}
+use Rattle.std.proofs.lemmas.Result.{IfOk-from_err}
 use Rattle.std.specs.List.{AllZip, Contains}
 use Rattle.std.proofs.lemmas.List.Elements.{All-contains}
 use Rattle.dpl_spec_split.specs.Graphs.{IsOddCycle, graph_of}
@@ -32,3 +33,12 @@ returns c = λ features many.
       tangled = tangled-same (graph_of c.args.edges.now) (conflicts c.args.spacing cut) (same_conflicts c.args.spacing cut c.args.edges.now c.requires.edges)
           c.in_ok-edges.edges c.in_ok-edges.ensures;
     }
+
+pub returns-in_err-cycles : goal.returns-in_err-cycles
+returns-in_err-cycles c = IfOk-from_err _ _ c.from_residual.ensures.0
+
+pub returns-in_err-clashes : goal.returns-in_err-clashes
+returns-in_err-clashes c = IfOk-from_err _ _ c.from_residual-in_err-clashes.ensures.0
+
+pub returns-in_err-edges : goal.returns-in_err-edges
+returns-in_err-edges c = IfOk-from_err _ _ c.from_residual-in_err-edges.ensures.0

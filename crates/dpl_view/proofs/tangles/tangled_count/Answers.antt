@@ -1,4 +1,5 @@
 use Rattle.std.proofs.Common.{◌<◌, arith}
+use Rattle.std.proofs.lemmas.Result.{IfOk-from_err}
 use Rattle.std.proofs.lemmas.List.{get_or_default}
 use Rattle.dpl_spec_split.specs.Graphs.{stay}
 use Rattle.dpl_view.proofs.TangleLaws.{tangled-of}
@@ -20,3 +21,9 @@ marked_count-count-requires-clause-inside c = λ k d l.
     let low = (lv.root k k_in).least k (0, stay) in
     let same = get_or_default levels.roots.items k d 0 l in
     omega (arith, low, same, k_in, levels_many, levels.levels.ok.0)
+
+pub returns-in_err-levels : goal.returns-in_err-levels
+returns-in_err-levels c = IfOk-from_err _ _ c.from_residual.ensures.0
+
+pub returns-in_err-marks : goal.returns-in_err-marks
+returns-in_err-marks c = IfOk-from_err _ _ c.from_residual-in_err-marks.ensures.0
