@@ -189,23 +189,57 @@ fn painted_bytes<R: Threads + Sync>(
     ensures masks { IfOk result (λ x. x.0.items ≡ file_bytes_of copied.now options.now.a options.now.b masks.a masks.b) }
     ensures certificate { IfOk result (λ x. x.1.items ≡ certified cert) }
 {
-    let la = options.a;
-    let lb = options.b;
     if options.workers < 2 {
-        let bytes = file_bytes(alloc, copied, masks.a.rects(), masks.b.rects(), la, lb)?;
-        drop(masks);
-        return Ok((bytes, cert_bytes(alloc, &cert)?));
+        return bytes_in_turn(alloc, options, copied, masks, &cert);
     }
     let others = options.workers - 1;
+    bytes_at_once(rt, alloc, options, copied, &masks, &cert, others)
+}
+
+/// The bytes of both masks, which are let go then, and those of their certificate.
+fn bytes_in_turn(
+    alloc: Global,
+    options: &SplitOptions,
+    copied: &[u8],
+    masks: Masks,
+    cert: &Cert,
+) -> Result<(Vec<u8>, Vec<u8>), AllocError>
+    requires { IsCert cert.now }
+    ensures masks { IfOk result (λ x. x.0.items ≡ file_bytes_of copied.now options.now.a options.now.b masks.a masks.b) }
+    ensures certificate { IfOk result (λ x. x.1.items ≡ certified cert.now) }
+{
+    let la = options.a;
+    let lb = options.b;
+    let bytes = file_bytes(alloc, copied, masks.a.rects(), masks.b.rects(), la, lb)?;
+    drop(masks);
+    Ok((bytes, cert_bytes(alloc, cert)?))
+}
+
+/// The bytes of both masks by one worker, and those of their certificate by so many others.
+fn bytes_at_once<R: Threads + Sync>(
+    rt: &R,
+    alloc: Global,
+    options: &SplitOptions,
+    copied: &[u8],
+    masks: &Masks,
+    cert: &Cert,
+    others: u32,
+) -> Result<(Vec<u8>, Vec<u8>), AllocError>
+    requires { IsCert cert.now }
+    ensures masks { IfOk result (λ x. x.0.items ≡ file_bytes_of copied.now options.now.a options.now.b masks.now.a masks.now.b) }
+    ensures certificate { IfOk result (λ x. x.1.items ≡ certified cert.now) }
+{
+    let la = options.a;
+    let lb = options.b;
     let (bytes, text) = join(
         rt,
         || -> Result<Vec<u8>, AllocError>
-            ensures { IfOk result (λ v. v.items ≡ file_bytes_of copied.entry.now la lb masks.a masks.b) }
+            ensures { IfOk result (λ v. v.items ≡ file_bytes_of copied.entry.now la lb masks.entry.now.a masks.entry.now.b) }
         { file_bytes(alloc, copied, masks.a.rects(), masks.b.rects(), la, lb) },
         || -> Result<Vec<u8>, AllocError>
-            requires { IsCert cert }
-            ensures { IfOk result (λ v. v.items ≡ certified cert) }
-        { cert_bytes_by(rt, alloc, &cert, others) },
+            requires { IsCert cert.now }
+            ensures { IfOk result (λ v. v.items ≡ certified cert.entry.now) }
+        { cert_bytes_by(rt, alloc, cert, others) },
     );
     Ok((bytes?, text?))
 }
