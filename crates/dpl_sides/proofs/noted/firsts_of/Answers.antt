@@ -2,7 +2,6 @@ use Rattle.std.proofs.Common.{sym, ◌∙◌, subst, rules}
 use Rattle.std.proofs.lemmas.Result.{IfOk-from_err}
 use Rattle.dpl_sides.specs.Noted.{AreSidesNoted, StandsBeforeFrom}
 use Rattle.dpl_sides.proofs.Noting.{written-back}
-use Rattle.std.proofs.lemmas.Result.{IfOk-from_err}
 use Rattle.dpl_sides.proofs.noted.firsts_of.Goals as goal
 
 pub returns : goal.returns

@@ -5,7 +5,6 @@ use Rattle.dpl_sides.specs.declared.corner.Kind.TheVariants.{LowerLeft, LowerRig
 use Rattle.dpl_sides.specs.Corners.{slab_corner}
 use Rattle.dpl_sides.proofs.CornerLaws.{slabs-cornered, zone-numbers}
 use Rattle.dpl_sides.proofs.Noting.{sides-noted}
-use Rattle.std.proofs.lemmas.Result.{IfOk-from_err}
 use Rattle.dpl_sides.proofs.noted.note_firsts.Goals as goal
 
 pub note_all-requires-clause-numbers : goal.note_all-requires-clause-numbers

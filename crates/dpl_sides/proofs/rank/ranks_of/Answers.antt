@@ -2,7 +2,6 @@ use Rattle.std.proofs.Common.{length, sym, ◌∙◌, subst, arith}
 use Rattle.std.proofs.lemmas.Result.{IfOk-from_err}
 use Rattle.dpl_sides.specs.Noted.{AreRanksBelow}
 use Rattle.dpl_sides.proofs.Noting.{written-back}
-use Rattle.std.proofs.lemmas.Result.{IfOk-from_err}
 use Rattle.dpl_sides.proofs.rank.ranks_of.Goals as goal
 
 pub note_places-requires-clause-each : goal.note_places-requires-clause-each

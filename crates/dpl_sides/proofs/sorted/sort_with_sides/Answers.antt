@@ -5,7 +5,6 @@ use Rattle.dpl_sides.specs.declared.piece.Piece.{Piece}
 use Rattle.dpl_sides.specs.Noted.{AreNumbered}
 use Rattle.dpl_sides.proofs.Noting.{written-back}
 use Rattle.dpl_sides.proofs.Ranks.{long, numbers-known, placed}
-use Rattle.std.proofs.lemmas.Result.{IfOk-from_err}
 use Rattle.dpl_sides.proofs.sorted.sort_with_sides.Goals as goal
 
 pub ranks_of-requires-clause-few : goal.ranks_of-requires-clause-few
