@@ -2,6 +2,7 @@ use Rattle.std.proofs.Common.{◌≡◌, ◌∙◌, false, [], ◌∷◌, ap}
 use Rattle.std.proofs.lemmas.Result.{IfOk-weaker}
 use Rattle.clap.specs.Simple.{App, Shape, with_subcommand}
 use Rattle.dpl_words.specs.Definition.{top_shape, split_shape, check_shape, demo_shape, batch_shape, edit_shape}
+use Rattle.std.proofs.lemmas.Result.{IfOk-from_err}
 use Rattle.dpl_words.proofs.definition.dpl_command.Goals as goal
 
 -- a command to which five subcommands were added
@@ -16,3 +17,15 @@ pub returns : goal.returns
 returns c =
     IfOk-weaker c.with_edit.result _ _ (λ x is. grown top_shape split_shape check_shape demo_shape batch_shape edit_shape c.top_command.ensures c.in_ok-command.ensures
     c.in_ok-command-2.ensures c.in_ok-command-3.ensures c.in_ok-command-4.ensures is) c.with_edit.ensures
+
+pub returns-in_err-command : goal.returns-in_err-command
+returns-in_err-command c = IfOk-from_err _ _ c.from_residual.ensures.0
+
+pub returns-in_err-command-2 : goal.returns-in_err-command-2
+returns-in_err-command-2 c = IfOk-from_err _ _ c.from_residual-in_err-command-2.ensures.0
+
+pub returns-in_err-command-3 : goal.returns-in_err-command-3
+returns-in_err-command-3 c = IfOk-from_err _ _ c.from_residual-in_err-command-3.ensures.0
+
+pub returns-in_err-command-4 : goal.returns-in_err-command-4
+returns-in_err-command-4 c = IfOk-from_err _ _ c.from_residual-in_err-command-4.ensures.0

@@ -1,4 +1,5 @@
 use Rattle.dpl_words.proofs.Ranges.{some_from}
+use Rattle.std.proofs.lemmas.Result.{IfOk-from_err}
 use Rattle.dpl_words.proofs.values.batch_options.Goals as goal
 
 pub number_16-requires : goal.number_16-requires
@@ -33,3 +34,6 @@ required_text-requires-2 c = c.requires.there.prefix
 
 pub numbers_16-requires : goal.numbers_16-requires
 numbers_16-requires c = c.requires.there.layers
+
+pub returns-in_err-numbers_16 : goal.returns-in_err-numbers_16
+returns-in_err-numbers_16 c = IfOk-from_err _ _ c.from_residual.ensures.0
