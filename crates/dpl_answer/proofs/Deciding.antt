@@ -41,7 +41,8 @@ pub of_all : {A : Type 0} (P : A → Type 0) (xs : List A) (x : A) → All P xs 
 of_all P xs x all c = subst P c.2 (all c.0 x c.1)
 
 -- the edges have what is joined both ways round
-pub same_edges : (marks : Option Marks) (spacing : Spacing) (cut : Cut) (edges : List (ℕ × ℕ)) → AreEdges (cut_graph marks spacing cut) edges → SameEdges (graph_of edges) (cut_graph marks spacing cut)
+pub same_edges : (marks : Option Marks) (spacing : Spacing) (cut : Cut) (edges : List (ℕ × ℕ))
+    → AreEdges (cut_graph marks spacing cut) edges → SameEdges (graph_of edges) (cut_graph marks spacing cut)
 same_edges marks spacing cut edges are u v = (
   λ joined. elim joined [ inl c ↦ ((are.exactly u v).0 c).1 | inr c ↦ graph-back marks spacing cut.pieces cut.owners v u ((are.exactly v u).0 c).1 ],
   λ c. elim (cases_order u v) [

@@ -14,7 +14,7 @@ use std::alloc::AllocError;
 /// How many items a square with sides of the rule has on average where they are crowded.
 const CROWD: u64 = 64;
 
-/// With how many of those behind it in the list each item is compared first.
+/// With how many of the list each item is compared first: itself, and those behind it.
 const NEXT: usize = 8;
 
 /// For how many items at most all others are gone through.

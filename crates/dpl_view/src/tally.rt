@@ -35,7 +35,7 @@ pub(crate) fn empty_table(alloc: Global, ranks: &[u32]) -> Result<Vec<LayerCount
 
 /// Counts one element more where its layer stands, if it lies on one.
 ///
-/// The error: there are more than 2^64 of a kind, for which no memory is there.
+/// The error: out of memory, or a kind of which 2^64 - 1 are counted has one more, for which no memory is there.
 fn tally(ranks: &[u32], table: &mut [LayerCounts], body: &Body<'_>) -> Result<(), AllocError>
     requires order { AreInOrder ranks.now table.old }
     requires listed { IsListed ranks.now (body_seen body.now) }
@@ -78,7 +78,7 @@ fn tally_all(
 
 /// Counts each element of a file, whatever structure it stands in.
 ///
-/// The error: there are more than 2^64 of a kind, for which no memory is there.
+/// The error: out of memory, or a kind of which 2^64 - 1 are counted has one more, for which no memory is there.
 pub(crate) fn tally_file(
     lib: &Library<'_>,
     ranks: &[u32],

@@ -11,7 +11,8 @@ pub returns-in_default-clause-made : goal.returns-in_default-clause-made
 returns-in_default-clause-made g c =
     let told = g.H.Host.told c.args.host.now in
     let seen = subst (λ (o : Option (Vec ℕ Global)). IsSeen told c.args.options.now.output.now (option_map (λ v. v.items) o)) c.in_default.is c.in_ok-bytes.ensures.seen in
-    out_large told (check_view c.args.options.now) (marks_with (check_view c.args.options.now) c.args.layer.now) c.args.layer.now.slabs c.args.cert.now _ c.requires.kind seen c.in_ok-too_large.ensures
+    out_large told (check_view c.args.options.now) (marks_with (check_view c.args.options.now) c.args.layer.now)
+    c.args.layer.now.slabs c.args.cert.now _ c.requires.kind seen c.in_ok-too_large.ensures
 
 pub returns-clause-made : goal.returns-clause-made
 returns-clause-made g c =
