@@ -27,14 +27,14 @@ put_rows-requires-clause-roots c = λ k d l.
 pub returns-clause-chart : goal.returns-clause-chart
 returns-clause-chart c =
     let is : (with_items c.in_ok-chart.chart c.put_rows.new.chart).items ≡ c.put_rows.new.chart =
-        with_items_is c.in_ok-chart.chart c.put_rows.new.chart (c.put_rows.auto.chart ∙ c.deref_mut.ensures.len) in
+    with_items_is c.in_ok-chart.chart c.put_rows.new.chart (c.put_rows.auto.chart ∙ c.deref_mut.ensures.len) in
     let len : length c.deref_mut.result.now ≡ c.args.n = ap length c.deref_mut.ensures.value ∙ c.in_ok-chart.ensures.chart.len in
     subst (IsChart c.args.rows.now c.args.n) (sym is) (subst (λ n. IsChart c.args.rows.now n c.put_rows.new.chart) len c.put_rows.ensures)
 
 pub returns-clause-low : goal.returns-clause-low
 returns-clause-low c =
     let is : (with_items c.in_ok-chart.chart c.put_rows.new.chart).items ≡ c.put_rows.new.chart =
-        with_items_is c.in_ok-chart.chart c.put_rows.new.chart (c.put_rows.auto.chart ∙ c.deref_mut.ensures.len) in
+    with_items_is c.in_ok-chart.chart c.put_rows.new.chart (c.put_rows.auto.chart ∙ c.deref_mut.ensures.len) in
     subst AreLow (sym is) (chart-low c.args.rows.now _ c.put_rows.new.chart c.requires.ordered c.put_rows.ensures)
 
 pub returns-clause-few : goal.returns-clause-few

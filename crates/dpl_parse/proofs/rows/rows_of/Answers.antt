@@ -15,8 +15,7 @@ loop-n-preserved g c =
 
 pub returns-in_default-clause-fault : goal.returns-in_default-clause-fault
 returns-in_default-clause-fault g c =
-    let old = c.loop-n.invariant in
-    (
+    let old = c.loop-n.invariant in (
       c.loop-n.found.items,
       _,
       old.fit,

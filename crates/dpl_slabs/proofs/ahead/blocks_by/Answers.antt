@@ -23,7 +23,6 @@ loop-list-preserved g c =
 pub returns : goal.returns
 returns g c = rw c.reverse.ensures.items (All-reverse (IsBlock c.args.rects.now) c.loop-list.made.items c.loop-list.invariant.made)
 
-
 pub returns-in_err-lists : goal.returns-in_err-lists
 returns-in_err-lists g c = IfOk-from_err _ _ c.from_residual-in_err-lists.ensures.0
 

@@ -22,7 +22,6 @@ returns c =
     (λ v is. slabs-of-same (Chosen rule c.args.rects.items c.args.holes.items) (Without c.args.rects.items c.args.holes.items) v.items (without c.args.rects.items)
     (slabs-of-same (Told rule c.in_ok-edges.edges.items) (Chosen rule c.args.rects.items c.args.holes.items) v.items (told rule) is)) c.slabs_of_edges.ensures
 
-
 pub returns-in_err-edges : goal.returns-in_err-edges
 returns-in_err-edges c = IfOk-from_err _ _ c.from_residual-in_err-edges.ensures.0
 

@@ -37,7 +37,6 @@ returns c =
     (first ++ second) c.requires.canonical c.requires.below (chosen-covered c.args.rule first second) c.in_ok-more.ensures.slabs
     c.in_ok-more.ensures.within)
 
-
 pub returns-in_err-more : goal.returns-in_err-more
 returns-in_err-more c = IfOk-from_err _ _ c.from_residual-in_err-more.ensures.0
 

@@ -38,9 +38,6 @@ returns c =
     (slice-pieces c.args.low c.args.high c.args.rects.now c.args.holes.now _ _ _ _ _ _ _ _ rects holes left touching alone _ c.in_ok-slabs.ensures))
     c.put_together.ensures
 
-
-
-
 pub returns-in_err-add_touching : goal.returns-in_err-add_touching
 returns-in_err-add_touching c = IfOk-from_err _ _ c.from_residual-in_err-add_touching.ensures.0
 

@@ -23,8 +23,6 @@ returns-in_err-cuts g c = IfOk-from_err _ _ c.from_residual.ensures.0
 pub returns-in_err-made : goal.returns-in_err-made
 returns-in_err-made g c = IfOk-from_err _ _ c.from_residual-in_err-made.ensures.0
 
-
-
 pub returns-in_err-pieces : goal.returns-in_err-pieces
 returns-in_err-pieces g c = IfOk-from_err _ _ c.from_residual-in_err-pieces.ensures.0
 

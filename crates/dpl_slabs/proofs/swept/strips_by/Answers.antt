@@ -22,7 +22,6 @@ loop-swept-preserved g c =
 pub returns : goal.returns
 returns g c = rw c.reverse.ensures.items (All-reverse (IsSwept c.args.rects.now) c.loop-swept.made.items c.loop-swept.invariant.made)
 
-
 pub returns-in_err-all : goal.returns-in_err-all
 returns-in_err-all g c = IfOk-from_err _ _ c.from_residual-in_err-all.ensures.0
 

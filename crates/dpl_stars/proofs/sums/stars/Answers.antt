@@ -42,7 +42,7 @@ placed-requires-clause-pairs c = c.requires
 pub is_levelled-requires : goal.is_levelled-requires
 is_levelled-requires c =
     let len : length c.deref-3.result.now ≡ length c.in_ok-places.places =
-        ap length c.deref-3.ensures.value ∙ (c.in_ok-levels.ensures.as_many_levels ∙ ap length c.pieces-pieces.ensures) in
+    ap length c.deref-3.ensures.value ∙ (c.in_ok-levels.ensures.as_many_levels ∙ ap length c.pieces-pieces.ensures) in
     subst (λ n. AreEdgesBelow n c.deref-2.result.now) (sym len)
     (subst (λ es. AreEdgesBelow (length c.in_ok-places.places) es) (sym c.deref-2.ensures.value) c.in_ok-placed.ensures.below)
 

@@ -1,7 +1,6 @@
 use Rattle.std.proofs.Common.{rules, w32, FitsSigned}
 use Rattle.std.proofs.lemmas.Int.{to_z-of_z}
 use Rattle.dpl_upward.proofs.UpwardLaws.{max-known}
-
 use Rattle.dpl_upward.proofs.upward.widened.Goals as goal
 
 pub returns : goal.returns

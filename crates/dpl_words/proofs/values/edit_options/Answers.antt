@@ -39,6 +39,18 @@ required_text-requires-4 c = c.requires.there.certificate
 
 pub returns : goal.returns
 returns c =
-    rw (c.number_16.ensures, c.number_16-2.ensures, c.number_16-3.ensures, c.number_16-4.ensures, c.number_32.ensures, c.number_32-2.ensures,
-    c.number_32-3.ensures, c.corner.ensures, c.text.ensures, c.required_text.ensures, c.required_text-2.ensures, c.required_text-3.ensures,
-    c.required_text-4.ensures)
+    rw (
+      c.number_16.ensures,
+      c.number_16-2.ensures,
+      c.number_16-3.ensures,
+      c.number_16-4.ensures,
+      c.number_32.ensures,
+      c.number_32-2.ensures,
+      c.number_32-3.ensures,
+      c.corner.ensures,
+      c.text.ensures,
+      c.required_text.ensures,
+      c.required_text-2.ensures,
+      c.required_text-3.ensures,
+      c.required_text-4.ensures,
+    )

@@ -42,6 +42,21 @@ flag-requires c = c.requires.there.fewer
 
 pub returns : goal.returns
 returns c =
-    rw (c.number_16.ensures, c.number_16-2.ensures, c.number_16-3.ensures, c.number_16-4.ensures, c.number_32.ensures, c.number_32-2.ensures,
-    c.number_32-3.ensures, c.number_32-4.ensures, c.corner.ensures, c.text.ensures, c.given_16.ensures, c.given_16-2.ensures, c.flag.ensures,
-    c.required_text.ensures, c.required_text-2.ensures, c.required_text-3.ensures)
+    rw (
+      c.number_16.ensures,
+      c.number_16-2.ensures,
+      c.number_16-3.ensures,
+      c.number_16-4.ensures,
+      c.number_32.ensures,
+      c.number_32-2.ensures,
+      c.number_32-3.ensures,
+      c.number_32-4.ensures,
+      c.corner.ensures,
+      c.text.ensures,
+      c.given_16.ensures,
+      c.given_16-2.ensures,
+      c.flag.ensures,
+      c.required_text.ensures,
+      c.required_text-2.ensures,
+      c.required_text-3.ensures,
+    )

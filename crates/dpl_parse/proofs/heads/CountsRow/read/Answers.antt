@@ -52,6 +52,7 @@ returns-clause-found c =
     let f = c.in_ok-features.ensures.found in
     let p = c.in_ok-pieces.ensures.found in
     let z = c.in_ok-zones.ensures.found in
-    let s = c.in_ok-stitches.ensures.found in
-    (record { features = f.0; pieces = p.0; zones = z.0; stitches = s.0 },
-    rw (c.in_ok-literal.ensures.found, f.1, c.in_ok-literal-2.ensures.found, p.1, c.in_ok-literal-3.ensures.found, z.1, s.1))
+    let s = c.in_ok-stitches.ensures.found in (
+      record { features = f.0; pieces = p.0; zones = z.0; stitches = s.0 },
+      rw (c.in_ok-literal.ensures.found, f.1, c.in_ok-literal-2.ensures.found, p.1, c.in_ok-literal-3.ensures.found, z.1, s.1),
+    )

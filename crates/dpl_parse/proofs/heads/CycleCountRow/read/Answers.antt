@@ -39,8 +39,7 @@ returns-then-len-ne1-clause-none c = λ x f e.
 pub returns-clause-found : goal.returns-clause-found
 returns-clause-found c =
     let n = c.in_ok-len.len in
-    let b = c.in_ok-len.ensures.found in
-    (
+    let b = c.in_ok-len.ensures.found in (
       record { long = omega arith; odd = (n / 2, omega arith); fits = b.0 },
       rw (c.in_ok-literal.ensures.found, b.1, c.in_ok-end.ensures.found),
     )

@@ -48,8 +48,11 @@ pub overflow_cast-r : goal.overflow_cast-r
 overflow_cast-r c = rw (short-same c.args.r.now.y0 c.requires.over.solid.low) (far-fits c.args.r.now.y0 c.requires.over.solid.low)
 
 pub number-requires-clause-from : goal.number-requires-clause-from
-number-requires-clause-from c = rw (far-same c.args.self.now.y c.requires.sound.low, short-same c.args.r.now.y0 c.requires.over.solid.low,
-    far-same c.args.r.now.y0 c.requires.over.solid.low) c.requires.over.up
+number-requires-clause-from c = rw (
+  far-same c.args.self.now.y c.requires.sound.low,
+  short-same c.args.r.now.y0 c.requires.over.solid.low,
+  far-same c.args.r.now.y0 c.requires.over.solid.low,
+) c.requires.over.up
 
 pub number-requires-clause-low : goal.number-requires-clause-low
 number-requires-clause-low c = rw (far-same c.args.self.now.y c.requires.sound.low) c.requires.sound.low
@@ -78,8 +81,11 @@ pub overflow_cast-r-3 : goal.overflow_cast-r-3
 overflow_cast-r-3 c = rw (short-same c.args.r.now.x0 c.requires.over.solid.left) (far-fits c.args.r.now.x0 c.requires.over.solid.left)
 
 pub number-requires-3-clause-from : goal.number-requires-3-clause-from
-number-requires-3-clause-from c = rw (far-same c.args.self.now.x c.requires.sound.left, short-same c.args.r.now.x0 c.requires.over.solid.left,
-    far-same c.args.r.now.x0 c.requires.over.solid.left) c.requires.over.right
+number-requires-3-clause-from c = rw (
+  far-same c.args.self.now.x c.requires.sound.left,
+  short-same c.args.r.now.x0 c.requires.over.solid.left,
+  far-same c.args.r.now.x0 c.requires.over.solid.left,
+) c.requires.over.right
 
 pub number-requires-3-clause-low : goal.number-requires-3-clause-low
 number-requires-3-clause-low c = rw (far-same c.args.self.now.x c.requires.sound.left) c.requires.sound.left

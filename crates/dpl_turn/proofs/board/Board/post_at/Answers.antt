@@ -55,7 +55,7 @@ returns-in-Err-clause-answer g c =
     let last = f.new.seat.me.0 in
     let began : StartsWith t.result.history v.known = subst (λ (u : SeatView). StartsWith t.result.history u.known) t.ensures.view t.ensures.out.known in
     let given : c.give.new.seat.me.0 ≡ after_give (record last { named = None }) = ap (λ m. m.0) c.give.ensures.seat ∙ (ap (λ m. after_give m.0) c.put_back.ensures.seat
-        ∙ ap (λ (o : Option Entry). after_give (record last { named = o })) f.ensures.out.idle) in
+    ∙ ap (λ (o : Option Entry). after_give (record last { named = o })) f.ensures.out.idle) in
     answers_err v c.give.new.seat.me.0 f.result c.post.new.self c.args.worker c.args.tile c.args.sum c.in-Err.fault
     (subst (λ r. PostLeaves f.result (entry c.args.worker c.args.tile) c.args.sum r c.post.new.self) c.in-Err.is c.post.ensures.post)
     (posted_after v t.new.seat.me.0 last c.give.new.seat.me.0 f.result.history t.result.history None t.ensures.view began f.ensures.goes f.ensures.out.found given)
@@ -75,7 +75,7 @@ returns-clause-answer g c =
     let more = more_on_ok f.result c.post.new.self (entry c.args.worker c.args.tile) c.args.sum c.post.result c.in_default.field-0 c.in_default.is c.post.ensures.post in
     let began : StartsWith t.result.history v.known = subst (λ (u : SeatView). StartsWith t.result.history u.known) t.ensures.view t.ensures.out.known in
     let given : c.give-2.new.seat.me.0 ≡ after_give (record last { named = Some e }) = ap (λ m. m.0) c.give-2.ensures.seat
-        ∙ (ap (λ m. after_give m.0) c.put_back-2.ensures.seat ∙ ap (λ m. after_give m.0) c.name.ensures.seat) in (
+    ∙ (ap (λ m. after_give m.0) c.put_back-2.ensures.seat ∙ ap (λ m. after_give m.0) c.name.ensures.seat) in (
       f.result.history,
       more.0,
       posted_after v t.new.seat.me.0 last c.give-2.new.seat.me.0 f.result.history t.result.history (Some e) t.ensures.view began f.ensures.goes f.ensures.out.found given,

@@ -114,7 +114,6 @@ returns-clause-here c =
     let next : c.loop-i.bar.x1 <ℤ (c.loop-i.bar.x1 +ℤ pos 1) = omega (arith, ints) in
     rw before.last at (c.in_ok-put_without.ensures.front (c.loop-i.bar.x1 +ℤ pos 1) next).here
 
-
 pub bounds-active-0 : goal.bounds-active-0
 bounds-active-0 c = let h = c.is_empty.ensures in let g = c.if-is_empty.false in grind (arith, h, g)
 
