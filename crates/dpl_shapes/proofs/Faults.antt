@@ -46,21 +46,6 @@ before p n plain s t e SlantedPath lt h = s lt h
 before p n plain s t e PathTurnsBack lt h = t lt h
 before p n plain s t e NegativeExtension lt h = e lt h
 
-pub odd-first : (p : PathElement) (w : ℕ) (k : ℤ) → (p.width ≡ pos 0 → ⊥) → k ≡ p.kind → IsKnownType k → w ≡ unsigned_abs p.width → w % 2 ≡ 1
-    → IsFirstFault p OddWidth
-odd-first p w k drawn k_is known w_is odd = record { drawn = drawn; there = subst (λ n. n % 2 ≡ 1) w_is odd; first = earlier }
-  where
-    kind : IsKnownType p.kind
-    kind = subst IsKnownType k_is known
-
-    earlier : (g : PathFault) → place g < 3 → Applies p g → ⊥
-    earlier RoundPath lt h = plain-round p kind h
-    earlier BadPathType lt h = plain-bad p kind h
-    earlier OddWidth lt h = absurd (omega (arith, lt))
-    earlier SlantedPath lt h = absurd (omega (arith, lt))
-    earlier PathTurnsBack lt h = absurd (omega (arith, lt))
-    earlier NegativeExtension lt h = absurd (omega (arith, lt))
-
 pub slanted-first : (p : PathElement) → IsPlain p → HasSlant (distinct p.points) → IsFirstFault p SlantedPath
 slanted-first p plain slanted = record {
   drawn = plain.drawn;

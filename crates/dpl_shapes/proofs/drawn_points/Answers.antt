@@ -4,7 +4,7 @@ use Rattle.std.proofs.lemmas.Int.{ints}
 use Rattle.std.proofs.lemmas.Result.{IfOk-from_err}
 use Rattle.dpl_spec_elements.specs.Paths.{PathElement, path_of, distinct, HasSlant, HasTurnBack}
 use Rattle.dpl_shapes.specs.Types.{HasNegativeEnd}
-use Rattle.dpl_shapes.proofs.Faults.{IsPlain, plain-as, no-slant, turns-first, negative-first, no-fault, negative-as, slanted-first, odd-first}
+use Rattle.dpl_shapes.proofs.Faults.{IsPlain, plain-as, no-slant, turns-first, negative-first, no-fault, negative-as, slanted-first}
 use Rattle.dpl_shapes.proofs.Ends.{drawn-all}
 use Rattle.dpl_shapes.proofs.drawn_points.Goals as goal
 
@@ -57,14 +57,6 @@ returns-in_err-corners-clause-points c = IfOk-from_err _ _ c.from_residual.ensur
 
 pub returns-in_err-corners-clause-faultless : goal.returns-in_err-corners-clause-faultless
 returns-in_err-corners-clause-faultless c = IfOk-from_err _ _ c.from_residual.ensures.0
-
-pub returns-then-width-eq1-clause-refused : goal.returns-then-width-eq1-clause-refused
-returns-then-width-eq1-clause-refused c =
-    let p : PathElement = path_of c.args.points.now c.args.width c.args.kind c.args.begin_ext c.args.end_ext in
-    let kind : to_z w16 (of_z w16 c.args.kind) ≡ c.args.kind = omega (arith, ints) in
-    let width : to_z w64 (of_z w64 c.args.width) ≡ c.args.width = omega (arith, ints) in
-    odd-first p c.unsigned_abs-width.result _ (omega (arith, ints)) kind c.if-not-is_known_type.ensures
-    (c.unsigned_abs-width.ensures.value ∙ ap unsigned_abs width) c.if-width-eq1.true
 
 pub returns-then-not-is_straight-clause-refused : goal.returns-then-not-is_straight-clause-refused
 returns-then-not-is_straight-clause-refused c =
