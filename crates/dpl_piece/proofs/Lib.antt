@@ -11,5 +11,6 @@ pub mod Moved
 pub mod Cuts
 pub mod WholeLaws
 pub mod Ranks
+pub mod Piles
 pub mod MadeLaws
 pub mod Bars

@@ -143,7 +143,3 @@ module _ (features : List (List Rect)) (zones : List Zone) (n : ℕ) (own : List
       (sides-moved (length before) (StandsAfterFrom more 0) (StandsAfterFrom (before ++ more) (length before)) (unmoved-after before more) (moved-after before more)
       zones own (numbers_in m.zones.items) (sides_in After m.zones.items) old noted same made.are.seconds
       (subst (λ k. AreMoved k (numbers_in m.zones.items) (sides_in After m.zones.items) old noted) from moved))
-
--- some of the elements
-pub All-some : {X : Type 0} (P : X → Type 0) (all some : List X) → ((x : X) → Contains some x → Contains all x) → All P all → All P some
-All-some P all some among h k d k_in = All-contains P all (get_or some k d) h (among (get_or some k d) (Contains-get_or some k d k_in))

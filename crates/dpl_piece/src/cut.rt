@@ -3,14 +3,15 @@ ghost use Rattle.std.specs.Prelude.{ℕ, ◌≡◌, IfOk};
 ghost use Rattle.std.specs.List.{All};
 ghost use Rattle.dpl_sides.specs.Corners.{StandBeside};
 ghost use Rattle.dpl_piece.specs.Cutting.{AreBarePieces, AreFeatures, AreTheirZones, AreTheirPieces};
-ghost use Rattle.dpl_piece.specs.Made.{IsMade};
+ghost use Rattle.dpl_piece.specs.Made.{AreMade};
 ghost use Rattle.dpl_piece.specs.Pieces.{AreZonesFrom};
 
 use crate::bare::BarePieces;
-use crate::made::{Made, made_by};
+use crate::made::made_by;
 use crate::matched::Pieces;
 use crate::own::by_feature;
 use crate::piece::{CutUp, Lists, lists_of};
+use crate::pile::Pile;
 use crate::rest::pieces_of;
 use dpl_base::Zone;
 use dpl_slabs::Parts;
@@ -26,12 +27,12 @@ fn bare_of(
     features: Parts,
     zones: Vec<Zone>,
     sorted: Vec<u32>,
-    made: Vec<Made>,
+    made: Vec<Pile>,
 ) -> Result<BarePieces, AllocError>
     requires features { AreFeatures features }
     requires zones { AreTheirZones features zones.items }
     requires sorted { AreZonesFrom zones.items 0 sorted.items }
-    requires made { All (IsMade features zones.items) made.items }
+    requires made { All (AreMade features zones.items) made.items }
     ensures zones { IfOk result (λ b. b.zones ≡ zones.items) }
     ensures pieces { IfOk result (AreBarePieces features zones.items) }
     ensures stand { IfOk result (λ b. All (λ z. (side : ℕ × ℕ) × StandBeside b.parts z side) b.zones) }

@@ -9,6 +9,7 @@ mod made;
 mod matched;
 mod own;
 mod piece;
+mod pile;
 mod rest;
 
 pub use bare::BarePieces;

@@ -1,16 +1,19 @@
 //! What zones leave of features, made by workers before the features' turn.
-ghost use Rattle.std.specs.Prelude.{◌≡◌, ◌+◌, ◌++◌, ◌<◌, ◌≤◌, IfOk, IfSome, OnOk, length, map};
-ghost use Rattle.std.specs.List.{All, Contains};
+ghost use Rattle.std.specs.Prelude.{◌≡◌, ◌≢◌, ◌+◌, ◌-◌, ◌++◌, ◌<◌, ◌≤◌, ◌↔◌, ◌⊎◌, List, IsTrue, IfOk, IfSome, OnOk, length, map, slice_index_or};
+ghost use Rattle.std.specs.List.{All};
+ghost use Rattle.dpl_spec_split.specs.declared.Rect.{Rect as RectOf};
+ghost use Rattle.dpl_spec_split.specs.declared.Zone.{Zone as ZoneOf};
 ghost use Rattle.dpl_spec_split.specs.Loops.{farthest, AreRectsWithin};
 ghost use Rattle.dpl_piece.specs.Cutting.{AreFeatures, AreTheirZones};
 ghost use Rattle.dpl_sides.specs.declared.standing.Side.TheVariants.{Before, After};
 ghost use Rattle.dpl_sides.specs.Sided.{numbers_in, on_side, sides_in};
-ghost use Rattle.dpl_piece.specs.Made.{AreMadeOf, IsMade};
+ghost use Rattle.dpl_piece.specs.Made.{AreMade, AreMadeOf, IsMade};
 ghost use Rattle.dpl_sides.specs.Pieces.{rect_at};
-ghost use Rattle.dpl_piece.specs.Pieces.{broken_piece, AreBroken, AreZonesFrom};
+ghost use Rattle.dpl_piece.specs.Pieces.{broken_piece, feature_at, AreBroken, AreZonesFrom};
 
 use crate::bar::bar_parts;
 use crate::own::{feature_of, holes_at, own_count, rest_from, short_numbers, zones_at};
+use crate::pile::Pile;
 use dpl_base::{Id, Rect, Zone, give_back};
 use dpl_sides::{Origin, Piece, Sided, sides_of, with_sides};
 use dpl_slabs::Slabs;
@@ -103,7 +106,56 @@ fn threads_for(zones: usize, share: usize) -> usize {
     }
 }
 
-/// Breaks the features whose zones begin at one of so many places from a place on.
+/// Whether the zones of a feature begin at this place.
+fn begins(zones: &[Zone], sorted: &[u32], place: usize) -> bool
+    requires { place < length sorted.now }
+    ensures { IsTrue result ↔ ((place ≡ 0) ⊎ (feature_at zones.now (slice_index_or sorted.now (place - 1) 0) ≢ feature_at zones.now (slice_index_or sorted.now place 0))) }
+{
+    if place == 0 {
+        return true;
+    }
+    let before = sorted[place - 1] as usize;
+    feature_of(zones, before) != feature_of(zones, sorted[place] as usize)
+}
+
+/// Adds what is made of the feature whose zones begin at this place.
+fn add_from<R: Threads>(
+    rt: &R,
+    alloc: Global,
+    made: &mut Pile,
+    features: &[Slabs],
+    zones: &[Zone],
+    sorted: &[u32],
+    place: usize,
+    share: usize,
+) -> Result<(), AllocError>
+    requires features { AreFeatures features.now }
+    requires zones { AreTheirZones features.now zones.now }
+    requires within { All (AreRectsWithin farthest) features.now }
+    requires sorted { AreZonesFrom zones.now 0 sorted.now }
+    requires place { place ≤ length sorted.now }
+    requires made { AreMade features.now zones.now made.old }
+    ensures { OnOk result (AreMade features.now zones.now made.new) }
+{
+    let rest = rest_from(zones, sorted, place);
+    if rest.is_empty() {
+        return Ok(());
+    }
+    let feature = feature_of(zones, rest[0] as usize);
+    let (own, _) = rest.split_at(own_count(zones, rest, feature));
+    let next = made_of(
+        rt,
+        alloc,
+        &features[feature as usize],
+        zones,
+        own,
+        feature,
+        threads_for(own.len(), share),
+    )?;
+    made.add(next)
+}
+
+/// Breaks the features whose zones begin at one of so many places from a place on. The last of them comes first.
 fn made_from<R: Threads>(
     rt: &R,
     alloc: Global,
@@ -112,36 +164,25 @@ fn made_from<R: Threads>(
     sorted: &[u32],
     place: usize,
     count: usize,
-) -> Result<Vec<Made>, AllocError>
+) -> Result<Pile, AllocError>
     requires features { AreFeatures features.now }
     requires zones { AreTheirZones features.now zones.now }
     requires within { All (AreRectsWithin farthest) features.now }
     requires sorted { AreZonesFrom zones.now 0 sorted.now }
     requires place { place + count ≤ length sorted.now }
-    ensures { IfOk result (λ v. All (IsMade features.now zones.now) v.items) }
+    ensures { IfOk result (AreMade features.now zones.now) }
 {
-    let mut made = Vec::new(alloc);
-    let mut rest = rest_from(zones, sorted, place);
-    let after = sorted.len() - place - count;
-    while rest.len() > after {
-        let feature = feature_of(zones, rest[0] as usize);
-        let (own, others) = rest.split_at(own_count(zones, rest, feature));
-        let next = made_of(
-            rt,
-            alloc,
-            &features[feature as usize],
-            zones,
-            own,
-            feature,
-            threads_for(own.len(), count),
-        )?;
-        made.push(next)?;
-        rest = others;
+    let mut made = Pile::with_room(alloc, count)?;
+    for i in 0..count {
+        let at = place + (count - 1 - i);
+        if begins(zones, sorted, at) {
+            add_from(rt, alloc, &mut made, features, zones, sorted, at, count)?;
+        }
     }
     Ok(made)
 }
 
-/// The pieces of the features with zones, made by so many workers, each of which has as many zones. The last feature comes first.
+/// The pieces of the features with zones, made by so many workers, each of which has as many zones. The pile of the last features comes first; one without a feature, as of a worker that has a part of a feature's zones alone, is left out.
 pub fn made_by<R: Threads + Sync>(
     rt: &R,
     alloc: Global,
@@ -149,16 +190,16 @@ pub fn made_by<R: Threads + Sync>(
     zones: &[Zone],
     sorted: &[u32],
     workers: u32,
-) -> Result<Vec<Made>, AllocError>
+) -> Result<Vec<Pile>, AllocError>
     requires features { AreFeatures features.now }
     requires zones { AreTheirZones features.now zones.now }
     requires within { All (AreRectsWithin farthest) features.now }
     requires sorted { AreZonesFrom zones.now 0 sorted.now }
     requires workers { 1 ≤ workers }
-    ensures { IfOk result (λ v. All (IsMade features.now zones.now) v.items) }
+    ensures { IfOk result (λ v. All (AreMade features.now zones.now) v.items) }
 {
     let size = sorted.len().div_ceil(workers as usize).max(1);
-    let lists = map_chunks(
+    let piles = map_chunks(
         rt,
         alloc,
         sorted,
@@ -166,27 +207,34 @@ pub fn made_by<R: Threads + Sync>(
         &|place, chunk| { made_from(rt, alloc, features, zones, sorted, place, chunk.len()) },
     )?;
     let mut made = Vec::new(alloc);
-    for list in lists {
-        let mut list = list?;
-        made.append(&mut list)?;
+    for pile in piles {
+        let pile = pile?;
+        if pile.last().is_some() {
+            made.push(pile)?;
+        }
     }
     made.reverse();
     Ok(made)
 }
 
-/// Takes what was made of a feature from the end of the list, if it is there.
-pub fn taken(made: &mut Vec<Made>, feature: Id) -> Option<Made>
-    ensures taken { IfSome result (λ m. Contains made.old.items m × (m.feature ≡ feature)) }
-    ensures others { (m : Made) → Contains made.new.items m → Contains made.old.items m }
+/// Takes what was made of a feature, where that is what the last pile has last. A pile of which all is taken goes.
+pub fn taken(made: &mut Vec<Pile>, feature: Id) -> Result<Option<Made>, AllocError>
+    ensures made { IfOk result (λ o. (features : List (List RectOf)) (zones : List ZoneOf) → All (AreMade features zones) made.old.items → All (AreMade features zones) made.new.items × IfSome o (IsMade features zones)) }
+    ensures feature { IfOk result (λ o. IfSome o (λ m. m.feature ≡ feature)) }
 {
     let count = made.len();
     if count == 0 {
-        return None;
+        return Ok(None);
     }
-    if made[count - 1].feature != feature {
-        return None;
+    let Some(last) = made[count - 1].last() else {
+        return Ok(None);
+    };
+    if last != feature {
+        return Ok(None);
     }
-    let next = made.pop()?;
-    give_back(made);
-    Some(next)
+    let taken = made[count - 1].take()?;
+    if made[count - 1].last().is_none() {
+        made.pop();
+    }
+    Ok(taken)
 }

@@ -8,7 +8,7 @@ ghost use Rattle.dpl_piece.specs.Cutting.{AreFeatures, AreTheirZones};
 ghost use Rattle.dpl_sides.specs.Corners.{StandBeside};
 ghost use Rattle.dpl_sides.specs.declared.standing.Side.TheVariants.{Before, After};
 ghost use Rattle.dpl_sides.specs.Sided.{numbers_in, sides_in};
-ghost use Rattle.dpl_piece.specs.Made.{AreLeft, IsMade};
+ghost use Rattle.dpl_piece.specs.Made.{AreLeft, AreMade};
 ghost use Rattle.dpl_sides.specs.Noted.{AreMoved, IsSortedWith};
 ghost use Rattle.dpl_sides.specs.Pieces.{least_key, rect_at, parts_in, RiseByLeast};
 ghost use Rattle.dpl_piece.specs.Pieces.{AddsPieces, AreCut, AreZonesFrom};
@@ -17,6 +17,7 @@ ghost use Rattle.dpl_piece.specs.Wholes.{whole_of, AreWholes, KeepsWhole};
 use crate::made::{Made, add_parts, broken, taken};
 use crate::own::{holes_at, own_count};
 use crate::piece::{CutUp, Whole};
+use crate::pile::Pile;
 use dpl_base::{Id, Zone};
 use dpl_sides::{Noted, Origin, Piece, Side, note_moved, note_sides, sort_with_sides};
 use dpl_slabs::Slabs;
@@ -100,13 +101,13 @@ pub fn pieces_of(
     features: Vec<Slabs>,
     zones: &[Zone],
     sorted: Vec<u32>,
-    mut made: Vec<Made>,
+    mut made: Vec<Pile>,
 ) -> Result<CutUp, AllocError>
     requires features { AreFeatures features.items }
     requires zones { AreTheirZones features.items zones.now }
     requires within { All (AreRectsWithin farthest) features.items }
     requires sorted { AreZonesFrom zones.now 0 sorted.items }
-    requires made { All (IsMade features.items zones.now) made.items }
+    requires made { All (AreMade features.items zones.now) made.items }
     ensures cut { IfOk result (λ v. AreCut features.items zones.now v.pieces.items) }
     ensures wholes { IfOk result (λ v. AreWholes features.items zones.now v.wholes.items) }
     ensures sides { IfOk result (λ v. AllZip (StandBeside (parts_in v.pieces.items)) zones.now v.sides.items) }
@@ -122,7 +123,7 @@ pub fn pieces_of(
         rest = others;
         let this = number;
         number += 1;
-        if let Some(made) = taken(&mut made, this) {
+        if let Some(made) = taken(&mut made, this)? {
             add_made(&mut pieces, &mut wholes, &mut noted, feature, made)?;
             continue;
         }

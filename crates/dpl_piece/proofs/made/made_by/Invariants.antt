@@ -1,11 +1,11 @@
 use Rattle.std.proofs.Common.{IfOk}
 use Rattle.std.specs.List.{All}
-use Rattle.dpl_piece.specs.Made.{IsMade}
+use Rattle.dpl_piece.specs.Made.{AreMade}
 use Rattle.dpl_piece.proofs.made.made_by.Given as goal
 
-abbrev pub invariant-loop-list : goal.invariant-loop-list
-invariant-loop-list g l =
+abbrev pub invariant-loop-pile : goal.invariant-loop-pile
+invariant-loop-pile g l =
     record {
-      made : All (IsMade l.features l.zones) l.made.items;
-      left : All (λ r. IfOk r (λ v. All (IsMade l.features l.zones) v.items)) l.list-iterator.rest.items;
+      made : All (AreMade l.features l.zones) l.made.items;
+      left : All (λ r. IfOk r (AreMade l.features l.zones)) l.pile-iterator.rest.items;
     }

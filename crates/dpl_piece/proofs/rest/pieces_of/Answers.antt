@@ -2,7 +2,6 @@ use Rattle.std.proofs.Common.{◌≡◌, ℕ, ◌<◌, List, [], length, map, ta
 use Rattle.std.specs.List.{All}
 use Rattle.std.specs.Vec.Iter.{into_iter_items}
 use Rattle.std.proofs.lemmas.List.{length-append, length-map}
-use Rattle.std.proofs.lemmas.List.Elements.{All-contains}
 use Rattle.std.proofs.lemmas.Result.{IfOk-from_err}
 use Rattle.dpl_spec_split.specs.declared.Rect.{Rect}
 use Rattle.dpl_spec_split.specs.declared.Zone.{Zone}
@@ -13,7 +12,7 @@ use Rattle.dpl_sides.specs.Pieces.{parts_in, rect_at}
 use Rattle.dpl_piece.specs.Pieces.{AreHolesOf}
 use Rattle.dpl_piece.proofs.Broken.{pieces-none, pieces-next}
 use Rattle.dpl_piece.proofs.Cuts.{comps, own-within, zones-below}
-use Rattle.dpl_piece.proofs.MadeLaws.{All-some, made-adds, made-firsts, made-keeps, made-known, made-seconds}
+use Rattle.dpl_piece.proofs.MadeLaws.{made-adds, made-firsts, made-keeps, made-known, made-seconds}
 use Rattle.dpl_piece.proofs.Ranks.{firsts-known, numbered-below, seconds-known, sorted-sides}
 use Rattle.dpl_piece.proofs.Sides.{adds-longer, sided-next, sided-none}
 use Rattle.dpl_piece.proofs.Sorted.{are-cut}
@@ -94,25 +93,23 @@ loop-feature-preserved c =
           (rw (c.split_at.ensures.front, c.deref.ensures.value) at c.in_ok-note_sides.ensures.seconds);
       wholes = wholes-next c.args.features.items c.args.zones.now at.number holes own at.wholes.items _
           at.invariant.wholes (rw t.2 at (c.in_ok-add_pieces.ensures.keeps holes parts));
-      made = All-some (IsMade c.args.features.items c.args.zones.now) at.made.items c.taken.new.made.items c.taken.ensures.others at.invariant.made;
+      made = (c.in_ok-made.ensures.made c.args.features.items c.args.zones.now at.invariant.made).0;
     }
 
 pub add_made-requires-clause-firsts : goal.add_made-requires-clause-firsts
 add_made-requires-clause-firsts c =
     let at = c.loop-feature in
-    let is : IsMade c.args.features.items c.args.zones.now c.in-Some-taken.made = All-contains (IsMade c.args.features.items c.args.zones.now) at.made.items c.in-Some-taken.made
-    at.invariant.made c.in-Some-taken.ensures.taken.0 in
-    made-known c.args.features.items c.args.zones.now c.in-Some-taken.made is at.noted.firsts.items at.invariant.sides.firsts-each
+    let is : IsMade c.args.features.items c.args.zones.now c.in-Some-2.made = rw c.in-Some-2.is at (c.in_ok-made.ensures.made c.args.features.items c.args.zones.now at.invariant.made).1 in
+    made-known c.args.features.items c.args.zones.now c.in-Some-2.made is at.noted.firsts.items at.invariant.sides.firsts-each
 
 pub add_made-requires-clause-seconds : goal.add_made-requires-clause-seconds
 add_made-requires-clause-seconds c =
     let at = c.loop-feature in
-    let is : IsMade c.args.features.items c.args.zones.now c.in-Some-taken.made = All-contains (IsMade c.args.features.items c.args.zones.now) at.made.items c.in-Some-taken.made
-    at.invariant.made c.in-Some-taken.ensures.taken.0 in
-    made-known c.args.features.items c.args.zones.now c.in-Some-taken.made is at.noted.seconds.items at.invariant.sides.seconds-each
+    let is : IsMade c.args.features.items c.args.zones.now c.in-Some-2.made = rw c.in-Some-2.is at (c.in_ok-made.ensures.made c.args.features.items c.args.zones.now at.invariant.made).1 in
+    made-known c.args.features.items c.args.zones.now c.in-Some-2.made is at.noted.seconds.items at.invariant.sides.seconds-each
 
-pub loop-feature-preserved-in-Some-taken : goal.loop-feature-preserved-in-Some-taken
-loop-feature-preserved-in-Some-taken c =
+pub loop-feature-preserved-in-Some-2 : goal.loop-feature-preserved-in-Some-2
+loop-feature-preserved-in-Some-2 c =
     let at = c.loop-feature in
     let features : List (List Rect) = c.args.features.items in
     let zones : List Zone = c.args.zones.now in
@@ -128,11 +125,12 @@ loop-feature-preserved-in-Some-taken c =
     let there = own-there zones at.rest.now at.number mid at.invariant.zones c.own_count.ensures.own c.own_count.ensures.next in
     let mine = own-feature zones at.rest.now at.number mid at.invariant.zones c.own_count.ensures.own c.own_count.ensures.next in
     let known = own-known zones at.rest.now at.number mid at.invariant.zones c.own_count.ensures.own c.own_count.ensures.next in
-    let m : Made = c.in-Some-taken.made in
-    let taken = c.in-Some-taken.ensures.taken in
-    let made : IsMade features zones m = All-contains (IsMade features zones) at.made.items m at.invariant.made taken.0 in
+    let m : Made = c.in-Some-2.made in
+    let mine-made = rw c.in-Some-2.is at c.in_ok-made.ensures.feature in
+    let took = c.in_ok-made.ensures.made features zones at.invariant.made in
+    let made : IsMade features zones m = rw c.in-Some-2.is at took.1 in
     let added = c.in_ok-add_made.ensures.adds in
-    let adds = made-adds features zones at.number holes at.pieces.items _ own m made taken.1 added in
+    let adds = made-adds features zones at.number holes at.pieces.items _ own m made mine-made added in
     let all = comps features zones c.requires.features c.requires.zones in
     record {
       all = t.0;
@@ -142,12 +140,12 @@ loop-feature-preserved-in-Some-taken c =
       pieces = pieces-next spacing overlap features zones all zs at.number t.1 holes own at.pieces.items _ at.invariant.pieces (c.requires.within at.number _ t.1) adds;
       sides = sided-next spacing overlap features zones some all zs at.number t.1 (take mid at.rest.now) there mine holes own at.pieces.items _
           (length (parts_in at.pieces.items)) at.noted.firsts.items at.noted.seconds.items _ _ refl adds at.invariant.sides
-          (made-firsts features zones at.number (take mid at.rest.now) there known mine m made taken.1 at.pieces.items _ added at.noted.firsts.items _ c.in_ok-add_made.ensures.firsts)
-          (made-seconds features zones at.number (take mid at.rest.now) there known mine m made taken.1 at.pieces.items _ added at.noted.seconds.items _
+          (made-firsts features zones at.number (take mid at.rest.now) there known mine m made mine-made at.pieces.items _ added at.noted.firsts.items _ c.in_ok-add_made.ensures.firsts)
+          (made-seconds features zones at.number (take mid at.rest.now) there known mine m made mine-made at.pieces.items _ added at.noted.seconds.items _
           c.in_ok-add_made.ensures.seconds);
       wholes = wholes-next features zones at.number holes own at.wholes.items _ at.invariant.wholes
-          (rw t.2 at (made-keeps features zones at.number c.in-Some.feature holes at.wholes.items _ own m made taken.1 c.in_ok-add_made.ensures.keeps));
-      made = All-some (IsMade features zones) at.made.items c.taken.new.made.items c.taken.ensures.others at.invariant.made;
+          (rw t.2 at (made-keeps features zones at.number c.in-Some.feature holes at.wholes.items _ own m made mine-made c.in_ok-add_made.ensures.keeps));
+      made = took.0;
     }
 
 pub sort_with_sides-requires-clause-firsts : goal.sort_with_sides-requires-clause-firsts

@@ -3,7 +3,7 @@ use Rattle.std.specs.List.{All}
 use Rattle.std.specs.Vec.Iter.{into_iter_items, into_iter_len}
 use Rattle.dpl_piece.proofs.Broken.{ArePiecesBelow}
 use Rattle.dpl_piece.proofs.Sides.{AreSidedBelow}
-use Rattle.dpl_piece.specs.Made.{IsMade}
+use Rattle.dpl_piece.specs.Made.{AreMade}
 use Rattle.dpl_sides.specs.Pieces.{parts_in}
 use Rattle.dpl_piece.specs.Pieces.{AreZonesFrom}
 use Rattle.dpl_piece.specs.Wholes.{AreWholesBelow}
@@ -19,5 +19,5 @@ invariant-loop-feature l =
       pieces : ArePiecesBelow l.fn.features.items l.zones l.number l.pieces.items;
       sides : AreSidedBelow l.zones l.number (parts_in l.pieces.items) l.noted.firsts.items l.noted.seconds.items;
       wholes : AreWholesBelow l.fn.features.items l.zones l.number l.wholes.items;
-      made : All (IsMade l.fn.features.items l.zones) l.made.items;
+      made : All (AreMade l.fn.features.items l.zones) l.made.items;
     }
