@@ -1,5 +1,5 @@
 //! The zones of a layer, of which the horizontal and the vertical ones are found side by side.
-ghost use Rattle.std.specs.Prelude.{◌≡◌, ◌≤◌, IfOk};
+ghost use Rattle.std.specs.Prelude.{◌≡◌, ◌<◌, ◌≤◌, IfOk};
 ghost use Rattle.dpl_spec_split.specs.Squares.{Covers};
 ghost use Rattle.dpl_spec_split.specs.Zones.{AreZones};
 ghost use Rattle.dpl_slabs.specs.Parts.{union_of};
@@ -55,7 +55,45 @@ fn vertical_zones_by<R: Threads + Sync>(
     upright_zones_by(rt, alloc, slabs, spacing, overlap, workers)
 }
 
-/// The stitch zones of disjoint sets within a layer that has just their squares, as `zones` gives them. With two workers or more all of them make the columns of the sets, and then half of them look for the horizontal zones and half for the vertical ones, each in a thread of its own, if one can be made.
+/// How many of the items have rows enough for a zone and one more on each side.
+fn count_tall(items: &[Item], overlap: u32) -> usize {
+    let mut count: usize = 0;
+    for item in items {
+        if item.rect.y1.abs_diff(item.rect.y0) > overlap.saturating_add(1) {
+            count = count.saturating_add(1);
+        }
+    }
+    count
+}
+
+/// How many of the slabs of parts have rows enough for a zone and one more on each side.
+fn count_tall_slabs(parts: &[Slabs], overlap: u32) -> usize {
+    let mut count: usize = 0;
+    for part in parts {
+        for slab in part.rects() {
+            if slab.y1.abs_diff(slab.y0) > overlap.saturating_add(1) {
+                count = count.saturating_add(1);
+            }
+        }
+    }
+    count
+}
+
+/// How many of two workers or more look for the zones of one way, where so many slabs may have one, and so many of the other way: a share of them that goes by these numbers, at least one worker, and not all.
+fn workers_for(workers: u32, own: usize, others: usize) -> u32
+    requires { 2 ≤ workers }
+    ensures some { 1 ≤ result }
+    ensures fewer { result < workers }
+{
+    let all = own.saturating_add(others).max(1);
+    let share = (workers as usize)
+        .saturating_mul(own)
+        .saturating_add(all / 2)
+        / all;
+    share.min(workers as usize - 1).max(1) as u32
+}
+
+/// The stitch zones of disjoint sets within a layer that has just their squares, as `zones` gives them. With two workers or more all of them make the columns of the sets, and then some look for the horizontal zones and the others for the vertical ones, by how many slabs may have such a zone, each in a thread of its own, if one can be made.
 ///
 /// The error: out of memory.
 pub fn zones_by<R: Threads + Sync>(
@@ -75,14 +113,15 @@ pub fn zones_by<R: Threads + Sync>(
         return zones(alloc, parts, spacing, overlap, marked);
     }
     let columns = columns_of_parts_by(rt, alloc, parts.items(), workers)?;
-    let half = workers / 2;
-    let others = workers - half;
+    let tall = count_tall_slabs(parts.items(), overlap);
+    let own = workers_for(workers, count_tall(&columns, overlap), tall);
+    let others = workers - own;
     let (horizontal, vertical) = join(
         rt,
         move || -> Result<Vec<Zone>, AllocError>
-            requires { (spacing.corner ≤ spacing.rule) × (1 ≤ half) × AreColumns parts.now columns.items }
+            requires { (spacing.corner ≤ spacing.rule) × (1 ≤ own) × AreColumns parts.now columns.items }
             ensures { IfOk result (λ v. AreFlat spacing overlap parts.entry.now v.items) }
-        { horizontal_zones_by(rt, alloc, parts, columns, spacing, overlap, half) },
+        { horizontal_zones_by(rt, alloc, parts, columns, spacing, overlap, own) },
         || -> Result<Vec<Zone>, AllocError>
             requires { (spacing.corner ≤ spacing.rule) × (1 ≤ others) }
             ensures { IfOk result (λ v. AreUpright spacing overlap parts.entry.now v.items) }
