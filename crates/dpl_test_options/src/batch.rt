@@ -1,22 +1,20 @@
 //! Many layers of one file.
 
-use dpl_host::{Kind, MemHost};
+use crate::cases::Content::{self, Masks, Text, Top};
+use crate::cases::Left::{self, Absent, As, Is};
+use crate::cases::{Case, Run, all_hold, holds_where};
+use dpl_host::Kind;
 use dpl_run::{Status, USAGE};
-use dpl_test_runs::{BAR, answer};
-use dpl_test_sample::{Part, host, is_text, layout, masks};
-use std::alloc::{AllocError, Global};
-use std::sync::Wait;
+use dpl_test_runs::BAR;
+use dpl_test_sample::Part::{self, Bar, Numbers, Record};
 use std::test::*;
-use std::thread::Threads;
 
 /// Three squares on layer 1, each closer to each other one than the rule, and a bar on layer 2.
-const LAYERS: [Part<'static>; 6] = [
-    Part::Begin(b"TOP\0"),
-    Part::Bar(1, [0, 0, 10, 10]),
-    Part::Bar(1, [20, 0, 30, 10]),
-    Part::Bar(1, [10, 20, 20, 30]),
-    Part::Bar(2, BAR),
-    Part::End,
+const LAYERS: [Part<'static>; 4] = [
+    Bar(1, [0, 0, 10, 10]),
+    Bar(1, [20, 0, 30, 10]),
+    Bar(1, [10, 20, 20, 30]),
+    Bar(2, BAR),
 ];
 
 const ONE_CERT: &str =
@@ -25,154 +23,184 @@ const ONE_CERT: &str =
 const TWO_CERT: &str =
     "dpl 1\nrule 30 overlap 10\nfeatures 1 pieces 1 zones 0 stitches 0\npiece 0 A 0 0\nend\n";
 
-const ONE_LINE: &str = "layer 1 conflict cycle 3\n";
+/// What a split says of each of them.
+const ONE: &str = "conflict cycle 3\n";
 
-const TWO_LINE: &str = "layer 2 done features 1 pieces 1 zones 0 stitches 0 a 1 b 0\n";
+const TWO: &str = "done features 1 pieces 1 zones 0 stitches 0 a 1 b 0\n";
 
-/// A host with these bytes as IN, and a file where the masks of layer 1 would go.
-fn with_file(alloc: Global, file: Vec<u8>) -> Result<MemHost, AllocError> {
-    let before = Vec::from_slice(alloc, b"before")?;
-    let files = vec![in alloc; ("in", file), ("p.1.gds", before)]?;
-    host(alloc, files, 4096, Vec::new(alloc))
-}
+/// The file, and one where the masks of layer 1 would go.
+const FILES: &[(&str, Content<'static>)] = &[("in", Top(&[&LAYERS])), ("p.1.gds", Text("before"))];
+
+/// What a batch of both leaves.
+const BOTH: &[(&str, Left<'static>)] = &[
+    ("p.1.cert", Is(Text(ONE_CERT))),
+    ("p.2.cert", Is(Text(TWO_CERT))),
+    ("p.2.gds", Is(Masks(&[BAR], &[]))),
+    ("p.1.gds", Is(Text("before"))),
+];
+
+static CASES: [Case; 3] = [
+    Case {
+        what: "in order",
+        files: FILES,
+        runs: &[Run {
+            line: "dpl batch --rule 30 --overlap 10 in p 1 2",
+            status: Status::Conflict,
+            said: &["layer 1 ", ONE, "layer 2 ", TWO],
+            left: BOTH,
+        }],
+    },
+    Case {
+        what: "in the other order",
+        files: FILES,
+        runs: &[Run {
+            line: "dpl batch --rule 30 --overlap 10 in p 2 1",
+            status: Status::Conflict,
+            said: &["layer 2 ", TWO, "layer 1 ", ONE],
+            left: BOTH,
+        }],
+    },
+    Case {
+        what: "with other tiles and workers",
+        files: FILES,
+        runs: &[Run {
+            line: "dpl batch --rule 30 --overlap 10 --tile 1 in p 1 --workers 64 2",
+            status: Status::Conflict,
+            said: &["layer 1 ", ONE, "layer 2 ", TWO],
+            left: BOTH,
+        }],
+    },
+];
 
 #[test]
 fn each_layer_is_as_by_itself(rt: HostRuntime) -> Result<(), Fail> {
-    let alloc = rt.alloc();
-    let cases = [
-        (
-            "dpl batch --rule 30 --overlap 10 in p 1 2",
-            [ONE_LINE, TWO_LINE],
-        ),
-        (
-            "dpl batch --rule 30 --overlap 10 in p 2 1",
-            [TWO_LINE, ONE_LINE],
-        ),
-        (
-            "dpl batch --rule 30 --overlap 10 --tile 1 in p 1 --workers 64 2",
-            [ONE_LINE, TWO_LINE],
-        ),
-    ];
-    for (line, lines) in cases {
-        let mut host = with_file(alloc, layout(alloc, &[&LAYERS])?)?;
-        let status = answer(&rt, alloc, line, &mut host)?;
-        assert_eq!(rt; status, Status::Conflict, "at {line}");
-        assert!(rt; is_text(Some(host.said()), &lines), "at {line}");
-        assert!(rt; is_text(host.file("p.1.cert"), &[ONE_CERT]), "at {line}");
-        assert!(rt; is_text(host.file("p.2.cert"), &[TWO_CERT]), "at {line}");
-        let masks = masks(alloc, &[BAR], &[])?;
-        assert!(rt; host.file("p.2.gds") == Some(masks.as_slice()), "at {line}");
-        assert!(rt; is_text(host.file("p.1.gds"), &["before"]), "at {line}");
-    }
-    Ok(())
+    all_hold(&rt, rt.alloc(), &CASES)
 }
+
+static TWICE: [Case; 1] = [Case {
+    what: "layer 1",
+    files: FILES,
+    runs: &[Run {
+        line: "dpl batch --rule 30 --overlap 10 in p 1 1",
+        status: Status::Usage,
+        said: &[USAGE],
+        left: &[("p.1.cert", Absent)],
+    }],
+}];
 
 #[test]
 fn a_layer_is_named_once(rt: HostRuntime) -> Result<(), Fail> {
-    let alloc = rt.alloc();
-    let line = "dpl batch --rule 30 --overlap 10 in p 1 1";
-    let mut host = with_file(alloc, layout(alloc, &[&LAYERS])?)?;
-    let status = answer(&rt, alloc, line, &mut host)?;
-    assert_eq!(rt; status, Status::Usage);
-    assert!(rt; is_text(Some(host.said()), &[USAGE]));
-    assert!(rt; host.file("p.1.cert") == None);
-    Ok(())
+    all_hold(&rt, rt.alloc(), &TWICE)
 }
+
+static TRUNCATED: [Case; 1] = [Case {
+    what: "no bytes",
+    files: &[("in", Text("")), ("p.1.gds", Text("before"))],
+    runs: &[Run {
+        line: "dpl batch --rule 30 --overlap 10 in p 7 2",
+        status: Status::Refused,
+        said: &["layer 7 refused Truncated 0\nlayer 2 refused Truncated 0\n"],
+        left: &[
+            ("p.7.cert", Is(Text("dpl 1\nfault Truncated 0\nend\n"))),
+            ("p.2.cert", Is(Text("dpl 1\nfault Truncated 0\nend\n"))),
+            ("p.2.gds", Absent),
+        ],
+    }],
+}];
 
 #[test]
 fn a_fault_of_the_bytes_is_said_of_each_layer(rt: HostRuntime) -> Result<(), Fail> {
-    let alloc = rt.alloc();
-    let line = "dpl batch --rule 30 --overlap 10 in p 7 2";
-    let mut host = with_file(alloc, Vec::new(alloc))?;
-    let status = answer(&rt, alloc, line, &mut host)?;
-    assert_eq!(rt; status, Status::Refused);
-    let said = "layer 7 refused Truncated 0\nlayer 2 refused Truncated 0\n";
-    assert!(rt; is_text(Some(host.said()), &[said]));
-    for name in ["p.7.cert", "p.2.cert"] {
-        assert!(rt;
-            is_text(host.file(name), &["dpl 1\nfault Truncated 0\nend\n"]),
-            "{name}"
-        );
-    }
-    assert!(rt; host.file("p.2.gds") == None);
-    Ok(())
+    all_hold(&rt, rt.alloc(), &TRUNCATED)
 }
+
+static MISSING: [Case; 1] = [Case {
+    what: "no file",
+    files: &[],
+    runs: &[Run {
+        line: "dpl batch --rule 30 --overlap 10 in p 1 2",
+        status: Status::ReadFault,
+        said: &[],
+        left: &[("p.1.cert", Absent)],
+    }],
+}];
 
 #[test]
 fn a_file_that_isnt_there_is_no_answer(rt: HostRuntime) -> Result<(), Fail> {
-    let alloc = rt.alloc();
-    let mut host = host(alloc, Vec::new(alloc), 4096, Vec::new(alloc))?;
-    let line = "dpl batch --rule 30 --overlap 10 in p 1 2";
-    assert_eq!(rt; answer(&rt, alloc, line, &mut host)?, Status::ReadFault);
-    assert!(rt; host.said().is_empty() && host.file("p.1.cert") == None);
-    Ok(())
+    all_hold(&rt, rt.alloc(), &MISSING)
 }
 
-/// A shape on layer 3 with an edge that isn't parallel to an axis, behind those of the other two.
-const SLANTED: [Part<'static>; 7] = [
-    Part::Record(8, 0, &[]),
-    Part::Record(13, 2, &[0, 3]),
-    Part::Record(14, 2, &[0, 0]),
-    Part::Numbers(16, &[0, 0, 100, 0, 101, 20, 0, 20, 0, 0]),
-    Part::Record(17, 0, &[]),
-    Part::Bar(3, BAR),
-    Part::End,
+/// A shape on layer 3 with an edge that isn't parallel to an axis, at offset 354 behind those of the other two.
+const SLANTED: [Part<'static>; 6] = [
+    Record(8, 0, &[]),
+    Record(13, 2, &[0, 3]),
+    Record(14, 2, &[0, 0]),
+    Numbers(16, &[0, 0, 100, 0, 101, 20, 0, 20, 0, 0]),
+    Record(17, 0, &[]),
+    Bar(3, BAR),
 ];
 
-/// Layers and the files that a batch writes of them: one with a fault, one in conflict, one without a shape, and one that is done.
-const FILES: [[&str; 3]; 4] = [
-    ["3", "p.3.gds", "p.3.cert"],
-    ["1", "p.1.gds", "p.1.cert"],
-    ["9", "p.9.gds", "p.9.cert"],
-    ["2", "p.2.gds", "p.2.cert"],
-];
+/// What a split says of it, and of a layer without a shape.
+const SLANT: &str = "refused SlantedBoundary 354\n";
 
-/// Whether what a batch wrote of a layer is what `split` writes of it alone. What that says goes behind the rest.
-fn is_as_alone<R: Threads + Wait + Sync>(
-    rt: &R,
-    alloc: Global,
-    batch: &MemHost,
-    layer: [&str; 3],
-    said: &mut Vec<u8>,
-) -> Result<bool, AllocError> {
-    let [number, masks, cert] = layer;
-    let file = layout(alloc, &[&LAYERS[..5], &SLANTED])?;
-    let mut alone = host(alloc, vec![in alloc; ("in", file)]?, 4096, Vec::new(alloc))?;
-    let line = format!(in alloc; "dpl split --layer {number} --rule 30 --overlap 10 in out cert")?;
-    answer(rt, alloc, line.as_str(), &mut alone)?;
-    said.extend_from_slice(b"layer ")?;
-    said.extend_from_slice(number.as_bytes())?;
-    said.extend_from_slice(b" ")?;
-    said.extend_from_slice(alone.said())?;
-    Ok(batch.file(masks) == alone.file("out") && batch.file(cert) == alone.file("cert"))
-}
+const NONE: &str = "done features 0 pieces 0 zones 0 stitches 0 a 0 b 0\n";
+
+/// A batch of a layer with a fault, one in conflict, one without a shape, and one that is done, and then a split of each alone.
+static ALONE: [Case; 1] = [Case {
+    what: "four layers",
+    files: &[("in", Top(&[&LAYERS, &SLANTED]))],
+    runs: &[
+        Run {
+            line: "dpl batch --rule 30 --overlap 10 in p 3 1 9 2",
+            status: Status::Refused,
+            said: &[
+                "layer 3 ", SLANT, "layer 1 ", ONE, "layer 9 ", NONE, "layer 2 ", TWO,
+            ],
+            left: &[],
+        },
+        Run {
+            line: "dpl split --layer 3 --rule 30 --overlap 10 in 3.gds 3.cert",
+            status: Status::Refused,
+            said: &[SLANT],
+            left: &[("3.gds", As("p.3.gds")), ("3.cert", As("p.3.cert"))],
+        },
+        Run {
+            line: "dpl split --layer 1 --rule 30 --overlap 10 in 1.gds 1.cert",
+            status: Status::Conflict,
+            said: &[ONE],
+            left: &[("1.gds", As("p.1.gds")), ("1.cert", As("p.1.cert"))],
+        },
+        Run {
+            line: "dpl split --layer 9 --rule 30 --overlap 10 in 9.gds 9.cert",
+            status: Status::Done,
+            said: &[NONE],
+            left: &[("9.gds", As("p.9.gds")), ("9.cert", As("p.9.cert"))],
+        },
+        Run {
+            line: "dpl split --layer 2 --rule 30 --overlap 10 in 2.gds 2.cert",
+            status: Status::Done,
+            said: &[TWO],
+            left: &[("2.gds", As("p.2.gds")), ("2.cert", As("p.2.cert"))],
+        },
+    ],
+}];
 
 #[test]
 fn each_layer_has_the_files_of_its_split(rt: HostRuntime) -> Result<(), Fail> {
-    let alloc = rt.alloc();
-    let line = "dpl batch --rule 30 --overlap 10 in p 3 1 9 2";
-    let file = layout(alloc, &[&LAYERS[..5], &SLANTED])?;
-    let mut batch = host(alloc, vec![in alloc; ("in", file)]?, 4096, Vec::new(alloc))?;
-    let status = answer(&rt, alloc, line, &mut batch)?;
-    assert_eq!(rt; status, Status::Refused);
-    let mut said = Vec::new(alloc);
-    for layer in FILES {
-        let is_alike = is_as_alone(&rt, alloc, &batch, layer, &mut said)?;
-        assert!(rt; is_alike, "at {}", layer[0]);
-    }
-    assert!(rt; batch.said() == said.as_slice());
-    Ok(())
+    all_hold(&rt, rt.alloc(), &ALONE)
 }
+
+static FAILED: Case = Case {
+    what: "the third call that creates fails",
+    files: &[("in", Top(&[&LAYERS]))],
+    runs: &[Run {
+        line: "dpl batch --rule 30 --overlap 10 in p 2 1",
+        status: Status::WriteFault,
+        said: &[],
+        left: &[("p.2.cert", Is(Text(TWO_CERT))), ("p.1.cert", Absent)],
+    }],
+};
 
 #[test]
 fn a_failed_write_leaves_the_layers_before(rt: HostRuntime) -> Result<(), Fail> {
-    let alloc = rt.alloc();
-    let file = layout(alloc, &[&LAYERS])?;
-    let failing = vec![in alloc; (Kind::Create, 2)]?;
-    let mut host = host(alloc, vec![in alloc; ("in", file)]?, 4096, failing)?;
-    let line = "dpl batch --rule 30 --overlap 10 in p 2 1";
-    assert_eq!(rt; answer(&rt, alloc, line, &mut host)?, Status::WriteFault);
-    assert!(rt; is_text(host.file("p.2.cert"), &[TWO_CERT]));
-    assert!(rt; host.file("p.1.cert") == None && host.said().is_empty());
-    Ok(())
+    holds_where(&rt, rt.alloc(), &FAILED, &[(Kind::Create, 2)])
 }
