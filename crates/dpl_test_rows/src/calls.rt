@@ -1,20 +1,16 @@
 //! The calls that a run makes of its host: it reads what the answer rests on, writes what the answer has, and makes no other call.
 
 use dpl_host::{Failing, Kind, MemHost};
-use dpl_pool::OpenGate;
-use dpl_run::{Status, run};
-use dpl_test_sample::{Rectangle, bars, host, masks, words};
+use dpl_run::Status;
+use dpl_test_runs::{BAR, CHECK, SPLIT, answer};
+use dpl_test_sample::{Rectangle, bars, host, masks};
 use std::alloc::{AllocError, Global};
+use std::sync::Wait;
 use std::test::*;
-
-const SPLIT: &str = "dpl split --layer 1 --rule 30 --overlap 10 in out cert";
-
-const CHECK: &str = "dpl check --layer 1 --rule 30 --overlap 10 in out cert";
+use std::thread::Threads;
 
 /// EDITS is here the file that is CERT to the other commands, and CERT a new one.
 const EDIT: &str = "dpl edit --layer 1 --rule 30 --overlap 10 in cert out new";
-
-const BAR: Rectangle = [0, 0, 100, 20];
 
 /// Three squares, each two closer than the rule.
 const CROWD: [Rectangle; 3] = [[0, 0, 10, 10], [20, 0, 30, 10], [10, 20, 20, 30]];
@@ -58,7 +54,7 @@ struct Row {
     calls: &'static [Asked],
 }
 
-const ROWS: [Row; 17] = [
+static ROWS: [Row; 17] = [
     Row {
         line: SPLIT,
         layer: &[BAR],
@@ -239,15 +235,17 @@ fn took(host: &MemHost, calls: &[Asked]) -> bool {
     kept.len() == calls.len()
 }
 
+/// Whether a run ends as its row says, with these calls.
+fn fits<R: Threads + Wait + Sync>(rt: &R, alloc: Global, row: &Row) -> Result<bool, AllocError> {
+    let mut host = host_of(alloc, row)?;
+    let status = answer(rt, alloc, row.line, &mut host)?;
+    Ok(status == row.status && took(&host, row.calls))
+}
+
 #[test]
 fn a_run_makes_no_needless_call(rt: HostRuntime) -> Result<(), Fail> {
-    let alloc = rt.alloc();
     for row in &ROWS {
-        let mut host = host_of(alloc, row)?;
-        let words = words(alloc, row.line)?;
-        let status = run(&rt, alloc, &words, &mut host, &OpenGate);
-        assert!(rt; status == row.status, "at {}", row.line);
-        assert!(rt; took(&host, row.calls), "at {}", row.line);
+        assert!(rt; fits(&rt, rt.alloc(), row)?, "at {}", row.line);
     }
     Ok(())
 }

@@ -21,14 +21,13 @@ const TWO: &str = "dpl split --layer 1 --rule 30 --overlap 10 --workers 2 in out
 const FOUR: &str = "dpl split --layer 1 --rule 30 --overlap 10 --workers 4 in out cert";
 
 /// A large layer with these rectangles, and what is said of it. A second program, in plain Rust and without proofs, says the same.
-#[derive(Clone, Copy)]
 struct Large {
     more: &'static [Rectangle],
     said: &'static [u8],
 }
 
 /// Without more, and with three squares in conflict.
-const LAYERS: [Large; 2] = [
+static LAYERS: [Large; 2] = [
     Large {
         more: &[],
         said: b"done features 68001 pieces 102298 zones 44098 stitches 0 a 44200 b 34000\n",
@@ -84,22 +83,39 @@ fn run_on<R: Threads + Wait + Sync>(
     Ok(host)
 }
 
+/// Whether this is said of a large layer by one worker, and the same by more, which leave the same masks and certificate.
+fn is_split_alike<R: Threads + Wait + Sync>(
+    rt: &R,
+    alloc: Global,
+    large: &Large,
+) -> Result<bool, AllocError> {
+    let rectangles = rectangles(alloc, large.more)?;
+    let file = bars(alloc, rectangles.as_slice())?;
+    let one = run_on(rt, alloc, ONE, file.as_slice())?;
+    for line in [TWO, FOUR] {
+        let many = run_on(rt, alloc, line, file.as_slice())?;
+        if !are_alike(&many, &one) {
+            return Ok(false);
+        }
+    }
+    Ok(one.said() == large.said)
+}
+
+/// Whether two runs said the same, and left the same masks and the same certificate.
+fn are_alike(many: &MemHost, one: &MemHost) -> bool {
+    many.said() == one.said()
+        && many.file("out") == one.file("out")
+        && many.file("cert") == one.file("cert")
+}
+
 #[test]
 fn large_layers_are_split_alike_by_all_workers(rt: HostRuntime) -> Result<(), Fail> {
-    let alloc = rt.alloc();
     for large in &LAYERS {
-        let file = bars(alloc, rectangles(alloc, large.more)?.as_slice())?;
-        let one = run_on(&rt, alloc, ONE, file.as_slice())?;
-        assert!(rt; one.said() == large.said);
-        for line in [TWO, FOUR] {
-            let many = run_on(&rt, alloc, line, file.as_slice())?;
-            assert!(rt; many.said() == one.said(), "said at {line}");
-            assert!(rt; many.file("out") == one.file("out"), "masks at {line}");
-            assert!(rt;
-                many.file("cert") == one.file("cert"),
-                "certificate at {line}"
-            );
-        }
+        let count = large.more.len();
+        assert!(rt;
+            is_split_alike(&rt, rt.alloc(), large)?,
+            "with {count} more"
+        );
     }
     Ok(())
 }

@@ -6,7 +6,6 @@ use std::alloc::{AllocError, Global};
 use std::test::*;
 
 /// A layer that is done.
-#[derive(Clone, Copy)]
 pub(crate) struct Row {
     pub(crate) layer: &'static [Rectangle],
     pub(crate) done: Done<'static>,
@@ -38,7 +37,7 @@ pub(crate) const SEWN: Row = Row {
     },
 };
 
-const ROWS: [Row; 13] = [
+static ROWS: [Row; 13] = [
     // One bar.
     Row {
         layer: &[[0, 0, 100, 20]],
@@ -179,7 +178,7 @@ fn layers_are_split(rt: HostRuntime) -> Result<(), Fail> {
 }
 
 /// Layers in conflict, with the lines of the certificate behind the rule.
-const CLASHES: [(&[Rectangle], &str); 2] = [
+static CLASHES: [(&[Rectangle], &str); 2] = [
     (
         &[[0, 0, 10, 10], [20, 0, 30, 10], [10, 20, 20, 30]],
         "features 3 pieces 3 zones 0\ncycle 3\npiece 0 0 0\npiece 1 20 0\npiece 2 10 20\nnear 0 0 20 0\nnear 20 0 10 20\nnear 10 20 0 0\n",
@@ -193,7 +192,7 @@ const CLASHES: [(&[Rectangle], &str); 2] = [
 #[test]
 fn odd_cycles_are_told(rt: HostRuntime) -> Result<(), Fail> {
     let alloc = rt.alloc();
-    for (layer, cert) in CLASHES {
+    for &(layer, cert) in &CLASHES {
         let file = bars(alloc, layer)?;
         assert!(rt; is_conflict(&rt, alloc, SPLIT, file, cert)?, "at {cert}");
     }

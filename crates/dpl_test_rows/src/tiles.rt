@@ -4,7 +4,9 @@ use crate::rectangles::{Row, SEWN};
 use dpl_test_runs::{Done, is_conflict, is_done};
 use dpl_test_sample::{Rectangle, bars};
 use std::alloc::{AllocError, Global};
+use std::sync::Wait;
 use std::test::*;
+use std::thread::Threads;
 
 /// Two bars one unit closer than the rule.
 const BARS: Row = Row {
@@ -62,7 +64,7 @@ const LARGEST: &str =
 
 const MANY: &str = "dpl split --layer 1 --rule 30 --overlap 10 --tile 64 --workers 64 in out cert";
 
-const CASES: [(&str, Row); 22] = [
+static CASES: [(&str, Row); 22] = [
     (ONE, BARS),
     (TINY, BARS),
     (SMALL, BARS),
@@ -105,39 +107,52 @@ const DENSE: &str = "features 2 pieces 2 zones 0 stitches 0 a 36 b 36";
 
 const DENSE_CERT: &str = "features 2 pieces 2 zones 0 stitches 0\npiece 0 A 0 0\npiece 1 B 16 0\n";
 
-#[test]
-fn answers_show_no_tiles_or_workers(rt: HostRuntime) -> Result<(), Fail> {
-    let alloc = rt.alloc();
-    for (line, row) in CASES {
-        let file = bars(alloc, row.layer)?;
-        assert!(rt; is_done(&rt, alloc, line, file, &row.done)?, "at {line}");
-    }
+/// Whether the line splits both features.
+fn is_dense_done<R: Threads + Wait + Sync>(
+    rt: &R,
+    alloc: Global,
+    line: &str,
+) -> Result<bool, AllocError> {
     let a = chequers(alloc, 0)?;
     let b = chequers(alloc, 16)?;
-    let mut layer = chequers(alloc, 0)?;
-    layer.extend_from_slice(b.as_slice())?;
+    let file = dense(alloc, a.as_slice(), b.as_slice())?;
     let done = Done {
         line: DENSE,
         cert: DENSE_CERT,
         a: a.as_slice(),
         b: b.as_slice(),
     };
+    is_done(rt, alloc, line, file, &done)
+}
+
+/// The file of a layer with both features.
+fn dense(alloc: Global, a: &[Rectangle], b: &[Rectangle]) -> Result<Vec<u8>, AllocError> {
+    let mut layer = Vec::from_slice(alloc, a)?;
+    layer.extend_from_slice(b)?;
+    bars(alloc, layer.as_slice())
+}
+
+#[test]
+fn answers_show_no_tiles_or_workers(rt: HostRuntime) -> Result<(), Fail> {
+    let alloc = rt.alloc();
+    for (line, row) in &CASES {
+        let file = bars(alloc, row.layer)?;
+        assert!(rt; is_done(&rt, alloc, line, file, &row.done)?, "at {line}");
+    }
     for line in [ONE, TINY, MANY] {
-        let file = bars(alloc, layer.as_slice())?;
-        assert!(rt; is_done(&rt, alloc, line, file, &done)?, "at {line}");
+        assert!(rt; is_dense_done(&rt, alloc, line)?, "at {line}");
     }
     Ok(())
 }
 
 /// A layer in conflict, and the lines of its certificate behind the rule.
-#[derive(Clone, Copy)]
 struct Clash {
     layer: &'static [Rectangle],
     cert: &'static str,
 }
 
 /// Three squares, each two closer than the rule; twice three, of which the lower three are told of, in the last of two tiles and in the first; a mesh of 69 slabs and two squares within the rule.
-const CLASHES: [Clash; 4] = [
+static CLASHES: [Clash; 4] = [
     Clash {
         layer: &[[0, 0, 10, 10], [20, 0, 30, 10], [10, 20, 20, 30]],
         cert: "features 3 pieces 3 zones 0\ncycle 3\npiece 0 0 0\npiece 1 20 0\npiece 2 10 20\nnear 0 0 20 0\nnear 20 0 10 20\nnear 10 20 0 0\n",
@@ -193,7 +208,7 @@ const CLASHES: [Clash; 4] = [
 #[test]
 fn tiles_do_not_show_in_a_conflict(rt: HostRuntime) -> Result<(), Fail> {
     let alloc = rt.alloc();
-    for clash in CLASHES {
+    for clash in &CLASHES {
         for line in [ONE, TINY, SMALL, LARGEST, MANY] {
             let file = bars(alloc, clash.layer)?;
             assert!(rt;

@@ -1,8 +1,8 @@
 //! Texts that are no certificate, and the line at which they are refused.
 
+use crate::verdicts::{Check, ends_so};
 use dpl_run::Status;
-use dpl_test_runs::{CHECK, ONE_BAR, says, text};
-use dpl_test_sample::{bars, host};
+use dpl_test_runs::{BAR, CHECK, ONE_BAR};
 use std::test::*;
 
 const HEAD: &str = "dpl 1\nrule 30 overlap 10\n";
@@ -10,7 +10,7 @@ const HEAD: &str = "dpl 1\nrule 30 overlap 10\n";
 const COUNTS: &str = "features 1 pieces 1 zones 0 stitches 0\n";
 
 /// A text in parts, and what is said of it.
-const TEXTS: [(&[&str], &str); 18] = [
+static TEXTS: [(&[&str], &str); 18] = [
     (&[""], "refused cert Line 1\n"),
     (
         &["dpl 01\nrule 30 overlap 10\n", ONE_BAR],
@@ -91,16 +91,16 @@ const TEXTS: [(&[&str], &str); 18] = [
 
 #[test]
 fn certificates_are_refused_at_their_line(rt: HostRuntime) -> Result<(), Fail> {
-    let alloc = rt.alloc();
-    for (parts, line) in TEXTS {
-        let layer = bars(alloc, &[[0, 0, 100, 20]])?;
-        let cert = text(alloc, parts)?;
-        let files = vec![in alloc; ("in", layer), ("cert", cert)]?;
-        let mut host = host(alloc, files, 4096, Vec::new(alloc))?;
-        assert!(rt;
-            says(&rt, alloc, CHECK, &mut host, Status::Refused, line)?,
-            "at {line}"
-        );
+    for &(cert, line) in &TEXTS {
+        let check = Check {
+            layer: &[BAR],
+            masks: None,
+            cert,
+            words: CHECK,
+            status: Status::Refused,
+            line,
+        };
+        assert!(rt; ends_so(&rt, rt.alloc(), &check)?, "at {line}");
     }
     Ok(())
 }

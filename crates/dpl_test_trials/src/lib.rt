@@ -11,6 +11,8 @@ mod certificates;
 #[cfg(test)]
 mod files;
 #[cfg(test)]
+mod hosts;
+#[cfg(test)]
 mod lines;
 #[cfg(test)]
 mod records;

@@ -1,11 +1,14 @@
 //! Words that are no command.
 
+use crate::hosts::host_of_layer;
 use dpl_run::{Status, USAGE};
-use dpl_test_runs::answer;
-use dpl_test_sample::{bars, host};
+use dpl_test_runs::{BAR, says};
+use std::alloc::{AllocError, Global};
+use std::sync::Wait;
 use std::test::*;
+use std::thread::Threads;
 
-const LINES: [&str; 9] = [
+static LINES: [&str; 9] = [
     "dpl",
     "dpl --help",
     "dpl split --help",
@@ -17,18 +20,21 @@ const LINES: [&str; 9] = [
     "dpl split --layer 1 --rule 30 --overlap 10 in out",
 ];
 
+/// Whether a line is answered by the usage, and no certificate is written.
+fn is_usage<R: Threads + Wait + Sync>(
+    rt: &R,
+    alloc: Global,
+    line: &str,
+) -> Result<bool, AllocError> {
+    let mut host = host_of_layer(alloc, &[BAR])?;
+    let is_said = says(rt, alloc, line, &mut host, Status::Usage, USAGE)?;
+    Ok(is_said && host.file("cert") == None)
+}
+
 #[test]
 fn other_words_are_answered_by_the_usage(rt: HostRuntime) -> Result<(), Fail> {
-    let alloc = rt.alloc();
-    for line in LINES {
-        let files = vec![in alloc; ("in", bars(alloc, &[[0, 0, 100, 20]])?)]?;
-        let mut host = host(alloc, files, 4096, Vec::new(alloc))?;
-        assert!(rt;
-            answer(&rt, alloc, line, &mut host)? == Status::Usage,
-            "at {line}"
-        );
-        assert_eq!(rt; host.said(), USAGE.as_bytes(), "at {line}");
-        assert_eq!(rt; host.file("cert"), None, "at {line}");
+    for line in LINES.iter() {
+        assert!(rt; is_usage(&rt, rt.alloc(), line)?, "at {line}");
     }
     Ok(())
 }

@@ -22,27 +22,29 @@ const BOUNDARY: Part<'static> = Part::Record(8, 0, &[]);
 
 const ENDEL: Part<'static> = Part::Record(17, 0, &[]);
 
+/// One bar, with both optional records.
+static IN_PLACE: [Part<'static>; 9] = [
+    TOP,
+    BOUNDARY,
+    FLAGS,
+    PLEX,
+    LAYER,
+    DATATYPE,
+    LOOP,
+    ENDEL,
+    Part::End,
+];
+
 #[test]
 fn an_optional_record_may_stand_in_its_place(rt: HostRuntime) -> Result<(), Fail> {
     let alloc = rt.alloc();
-    let parts = [
-        TOP,
-        BOUNDARY,
-        FLAGS,
-        PLEX,
-        LAYER,
-        DATATYPE,
-        LOOP,
-        ENDEL,
-        Part::End,
-    ];
-    let file = layout(alloc, &[&parts])?;
+    let file = layout(alloc, &[&IN_PLACE])?;
     assert!(rt; is_done(&rt, alloc, SPLIT, file, &AS_ONE)?);
     Ok(())
 }
 
 /// The parts of a file, and what it is refused for.
-const REFUSED: [(&[Part<'static>], &str); 15] = [
+static REFUSED: [(&[Part<'static>], &str); 15] = [
     // An optional record behind its place, twice, and in exchanged order.
     (
         &[
@@ -127,7 +129,7 @@ const REFUSED: [(&[Part<'static>], &str); 15] = [
 #[test]
 fn records_and_names_are_refused(rt: HostRuntime) -> Result<(), Fail> {
     let alloc = rt.alloc();
-    for (parts, fault) in REFUSED {
+    for &(parts, fault) in &REFUSED {
         let file = layout(alloc, &[parts])?;
         assert!(rt; is_refused(&rt, alloc, SPLIT, file, fault)?, "at {fault}");
     }

@@ -1,9 +1,57 @@
 //! What is said of masks and of a conflict.
 
+use crate::hosts::{host_of_layer, host_with};
+use dpl_host::{Failing, MemHost};
 use dpl_run::Status;
-use dpl_test_runs::{CHECK, ONE_BAR, says, text};
-use dpl_test_sample::{Rectangle, bars, host, masks};
+use dpl_test_runs::{CHECK, ONE_BAR, SPLIT, says, text};
+use dpl_test_sample::{Rectangle, bars, masks};
+use std::alloc::{AllocError, Global};
+use std::sync::Wait;
 use std::test::*;
+use std::thread::Threads;
+
+/// A check: a layer with its masks, which may have no file, the parts of its certificate, and what is said of them.
+#[derive(Clone, Copy)]
+pub(crate) struct Check {
+    pub(crate) layer: &'static [Rectangle],
+    pub(crate) masks: Option<[&'static [Rectangle]; 2]>,
+    pub(crate) cert: &'static [&'static str],
+    pub(crate) words: &'static str,
+    pub(crate) status: Status,
+    pub(crate) line: &'static str,
+}
+
+/// A host with the files of a check, of which a call moves `step` bytes at most, and the listed calls fail.
+pub(crate) fn host_of(
+    alloc: Global,
+    check: &Check,
+    step: usize,
+    failing: &[Failing],
+) -> Result<MemHost, AllocError> {
+    let layer = bars(alloc, check.layer)?;
+    let cert = text(alloc, check.cert)?;
+    let (layer, cert) = (("in", layer.as_slice()), ("cert", cert.as_slice()));
+    let Some(both) = check.masks else {
+        return host_with(alloc, &[layer, cert], step, failing);
+    };
+    let out = masks(alloc, both[0], both[1])?;
+    host_with(
+        alloc,
+        &[layer, cert, ("out", out.as_slice())],
+        step,
+        failing,
+    )
+}
+
+/// Whether a check ends so.
+pub(crate) fn ends_so<R: Threads + Wait + Sync>(
+    rt: &R,
+    alloc: Global,
+    check: &Check,
+) -> Result<bool, AllocError> {
+    let mut host = host_of(alloc, check, 4096, &[])?;
+    says(rt, alloc, check.words, &mut host, check.status, check.line)
+}
 
 const BAR: [Rectangle; 1] = [[0, 0, 100, 20]];
 
@@ -56,29 +104,19 @@ const RIGHT: [Rectangle; 1] = [[50, 0, 100, 20]];
 
 const ONE_STITCH: &str = "features 1 pieces 2 zones 1 stitches 1\npiece 0 A 0 0\n";
 
-/// A layer with its masks, the parts of its certificate, and what is said of them.
-struct Case {
-    layer: &'static [Rectangle],
-    masks: [&'static [Rectangle]; 2],
-    cert: &'static [&'static str],
-    words: &'static str,
-    status: Status,
-    line: &'static str,
-}
-
-const CASES: [Case; 25] = [
+static CASES: [Check; 25] = [
     // A certificate that names a corner rule is for another one than `check` asks for.
-    Case {
+    Check {
         layer: &BAR,
-        masks: [&BAR, &[]],
+        masks: Some([&BAR, &[]]),
         cert: &["dpl 2\nrule 30 overlap 10 corner 29\n", ONE_BAR],
         words: CHECK,
         status: Status::CheckNo,
         line: "no Rules 30 10 29\n",
     },
-    Case {
+    Check {
         layer: &BAR,
-        masks: [&BAR, &[]],
+        masks: Some([&BAR, &[]]),
         cert: &[
             "dpl 3\nrule 30 overlap 10 corner 29\nfeatures 1 pieces 1 zones 0 stitches 0\ngains 0\n",
             "piece 0 A 0 0\nend\n",
@@ -87,49 +125,49 @@ const CASES: [Case; 25] = [
         status: Status::CheckNo,
         line: "no Rules 30 10 29\n",
     },
-    Case {
+    Check {
         layer: &BAR,
-        masks: [&BAR, &[]],
+        masks: Some([&BAR, &[]]),
         cert: &[HEAD, ONE_BAR],
         words: CHECK,
         status: Status::Done,
         line: "valid masks stitches 0\n",
     },
-    Case {
+    Check {
         layer: &BAR,
-        masks: [&BAR, &[]],
+        masks: Some([&BAR, &[]]),
         cert: &[HEAD, ONE_BAR],
         words: "dpl check --layer 1 --rule 31 --overlap 10 in out cert",
         status: Status::CheckNo,
         line: "no Rules 30 10\n",
     },
-    Case {
+    Check {
         layer: &BAR,
-        masks: [&BAR, &[]],
+        masks: Some([&BAR, &[]]),
         cert: &["dpl 1\nfault AngleNotRight 202\nend\n"],
         words: CHECK,
         status: Status::CheckNo,
         line: "no WasFault AngleNotRight 202\n",
     },
-    Case {
+    Check {
         layer: &BAR,
-        masks: [&BAR, &[[0, 49, 100, 69]]],
+        masks: Some([&BAR, &[[0, 49, 100, 69]]]),
         cert: &[HEAD, TWO_BARS],
         words: CHECK,
         status: Status::CheckNo,
         line: "no Counts 1 1 0\n",
     },
-    Case {
+    Check {
         layer: &BAR,
-        masks: [&[], &[]],
+        masks: Some([&[], &[]]),
         cert: &[HEAD, ONE_BAR],
         words: CHECK,
         status: Status::CheckNo,
         line: "no Cover 0 0\n",
     },
-    Case {
+    Check {
         layer: &BAR,
-        masks: [&BAR, &[]],
+        masks: Some([&BAR, &[]]),
         cert: &[
             HEAD,
             "features 1 pieces 1 zones 0 stitches 0\npiece 0 B 0 0\nend\n",
@@ -138,17 +176,17 @@ const CASES: [Case; 25] = [
         status: Status::CheckNo,
         line: "no Piece 0\n",
     },
-    Case {
+    Check {
         layer: &BARS,
-        masks: [&BARS, &[]],
+        masks: Some([&BARS, &[]]),
         cert: &[HEAD, TWO_BARS],
         words: CHECK,
         status: Status::CheckNo,
         line: "no SpacingA 0 19 0 49\n",
     },
-    Case {
+    Check {
         layer: &CROWD,
-        masks: [&CROWD_A, &CROWD_B],
+        masks: Some([&CROWD_A, &CROWD_B]),
         cert: &[
             HEAD,
             CROWD_COUNTS,
@@ -160,17 +198,17 @@ const CASES: [Case; 25] = [
         status: Status::Done,
         line: "valid masks stitches 1\n",
     },
-    Case {
+    Check {
         layer: &CROWD,
-        masks: [&CROWD_A, &CROWD_B],
+        masks: Some([&CROWD_A, &CROWD_B]),
         cert: &[HEAD, CROWD_COUNTS, "0\n", CROWD_PIECES, "end\n"],
         words: CHECK,
         status: Status::CheckNo,
         line: "no Overlap 97 180\n",
     },
-    Case {
+    Check {
         layer: &CROWD,
-        masks: [&CROWD_A, &CROWD_B],
+        masks: Some([&CROWD_A, &CROWD_B]),
         cert: &[
             HEAD,
             CROWD_COUNTS,
@@ -182,9 +220,9 @@ const CASES: [Case; 25] = [
         status: Status::CheckNo,
         line: "no Stitch 0\n",
     },
-    Case {
+    Check {
         layer: &CROWD,
-        masks: [&CROWD_A, &CROWD_B],
+        masks: Some([&CROWD_A, &CROWD_B]),
         cert: &[
             HEAD,
             CROWD_COUNTS,
@@ -196,43 +234,43 @@ const CASES: [Case; 25] = [
         status: Status::CheckNo,
         line: "no Overlap 106 180\n",
     },
-    Case {
+    Check {
         layer: &BAR,
-        masks: [&BAR, &[]],
+        masks: Some([&BAR, &[]]),
         cert: &["dpl 01\nrule 30 overlap 10\n", ONE_BAR],
         words: CHECK,
         status: Status::Refused,
         line: "refused cert Line 1\n",
     },
     // As many squares as the layer, and other ones; and more squares.
-    Case {
+    Check {
         layer: &BAR,
-        masks: [&[[1, 0, 101, 20]], &[]],
+        masks: Some([&[[1, 0, 101, 20]], &[]]),
         cert: &[HEAD, ONE_BAR],
         words: CHECK,
         status: Status::CheckNo,
         line: "no Cover 0 0\n",
     },
-    Case {
+    Check {
         layer: &BAR,
-        masks: [&BARS, &[]],
+        masks: Some([&BARS, &[]]),
         cert: &[HEAD, ONE_BAR],
         words: CHECK,
         status: Status::CheckNo,
         line: "no Cover 0 49\n",
     },
-    Case {
+    Check {
         layer: &BARS,
-        masks: [&[], &BARS],
+        masks: Some([&[], &BARS]),
         cert: &[HEAD, TWO_BARS],
         words: CHECK,
         status: Status::CheckNo,
         line: "no SpacingB 0 19 0 49\n",
     },
     // Another tool's stitch: as long as the overlap, longer than the masks have it, shorter, and between pieces of one letter.
-    Case {
+    Check {
         layer: &BAR,
-        masks: [&LEFT, &RIGHT],
+        masks: Some([&LEFT, &RIGHT]),
         cert: &[
             HEAD,
             ONE_STITCH,
@@ -242,9 +280,9 @@ const CASES: [Case; 25] = [
         status: Status::Done,
         line: "valid masks stitches 1\n",
     },
-    Case {
+    Check {
         layer: &BAR,
-        masks: [&LEFT, &RIGHT],
+        masks: Some([&LEFT, &RIGHT]),
         cert: &[
             HEAD,
             ONE_STITCH,
@@ -254,9 +292,9 @@ const CASES: [Case; 25] = [
         status: Status::CheckNo,
         line: "no Stitch 0\n",
     },
-    Case {
+    Check {
         layer: &BAR,
-        masks: [&LEFT, &RIGHT],
+        masks: Some([&LEFT, &RIGHT]),
         cert: &[
             HEAD,
             ONE_STITCH,
@@ -266,9 +304,9 @@ const CASES: [Case; 25] = [
         status: Status::CheckNo,
         line: "no Overlap 59 0\n",
     },
-    Case {
+    Check {
         layer: &BAR,
-        masks: [&LEFT, &RIGHT],
+        masks: Some([&LEFT, &RIGHT]),
         cert: &[
             HEAD,
             ONE_STITCH,
@@ -279,9 +317,9 @@ const CASES: [Case; 25] = [
         line: "no Stitch 0\n",
     },
     // Lines of gains: all, one missing, one of another component's numbers, and those of other zones.
-    Case {
+    Check {
         layer: &CROWD,
-        masks: [&CROWD_A, &CROWD_B],
+        masks: Some([&CROWD_A, &CROWD_B]),
         cert: &[
             CROWD_HEAD_3,
             "gains 5\n",
@@ -294,9 +332,9 @@ const CASES: [Case; 25] = [
         status: Status::Done,
         line: "valid masks stitches 1\n",
     },
-    Case {
+    Check {
         layer: &CROWD,
-        masks: [&CROWD_A, &CROWD_B],
+        masks: Some([&CROWD_A, &CROWD_B]),
         cert: &[
             CROWD_HEAD_3,
             "gains 4\n",
@@ -309,9 +347,9 @@ const CASES: [Case; 25] = [
         status: Status::CheckNo,
         line: "no Gain 4\n",
     },
-    Case {
+    Check {
         layer: &CROWD,
-        masks: [&CROWD_A, &CROWD_B],
+        masks: Some([&CROWD_A, &CROWD_B]),
         cert: &[
             CROWD_HEAD_3,
             "gains 5\n",
@@ -324,9 +362,9 @@ const CASES: [Case; 25] = [
         status: Status::CheckNo,
         line: "no Gain 4\n",
     },
-    Case {
+    Check {
         layer: &CROWD,
-        masks: [&CROWD_A, &CROWD_B],
+        masks: Some([&CROWD_A, &CROWD_B]),
         cert: &[
             "dpl 3\nrule 30 overlap 10 corner 30\nfeatures 3 pieces 8 zones 4 stitches 1\ngains 4\n",
             CROWD_PIECES,
@@ -342,16 +380,8 @@ const CASES: [Case; 25] = [
 
 #[test]
 fn masks_are_checked(rt: HostRuntime) -> Result<(), Fail> {
-    let alloc = rt.alloc();
-    for case in &CASES {
-        let [a, b] = case.masks;
-        let layer = bars(alloc, case.layer)?;
-        let out = masks(alloc, a, b)?;
-        let cert = text(alloc, case.cert)?;
-        let files = vec![in alloc; ("in", layer), ("out", out), ("cert", cert)]?;
-        let mut host = host(alloc, files, 4096, Vec::new(alloc))?;
-        let fits = says(&rt, alloc, case.words, &mut host, case.status, case.line)?;
-        assert!(rt; fits, "at {}", case.line);
+    for check in &CASES {
+        assert!(rt; ends_so(&rt, rt.alloc(), check)?, "at {}", check.line);
     }
     Ok(())
 }
@@ -375,76 +405,102 @@ const SQUARES_COUNTS: &str = "features 3 pieces 3 zones 0\n";
 const ANCHORED: &str =
     "cycle 3\npiece 0 0 0\npiece 1 20 0\nanchor A\nnear 0 0 20 0\nmarked 20 0\nmarked 0 0\nend\n";
 
-/// The counts and the lines of a cycle, and what is said of them.
-const CYCLES: [(&str, &str, Status, &str); 5] = [
-    (
-        SQUARES_COUNTS,
-        CYCLE,
-        Status::Done,
-        "valid conflict cycle 3\n",
-    ),
-    (SQUARES_COUNTS, OTHER_KEY, Status::CheckNo, "no Cycle 1\n"),
-    (SQUARES_COUNTS, OTHER_NEAR, Status::CheckNo, "no Cycle 2\n"),
-    (SQUARES_COUNTS, ANCHORED, Status::CheckNo, "no Cycle 1\n"),
-    (
-        "features 3 pieces 4 zones 0\n",
-        CYCLE,
-        Status::CheckNo,
-        "no Counts 3 3 0\n",
-    ),
+/// Checks of cycles.
+static CYCLES: [Check; 5] = [
+    Check {
+        layer: &SQUARES,
+        masks: None,
+        cert: &[HEAD, SQUARES_COUNTS, CYCLE],
+        words: CHECK,
+        status: Status::Done,
+        line: "valid conflict cycle 3\n",
+    },
+    Check {
+        layer: &SQUARES,
+        masks: None,
+        cert: &[HEAD, SQUARES_COUNTS, OTHER_KEY],
+        words: CHECK,
+        status: Status::CheckNo,
+        line: "no Cycle 1\n",
+    },
+    Check {
+        layer: &SQUARES,
+        masks: None,
+        cert: &[HEAD, SQUARES_COUNTS, OTHER_NEAR],
+        words: CHECK,
+        status: Status::CheckNo,
+        line: "no Cycle 2\n",
+    },
+    Check {
+        layer: &SQUARES,
+        masks: None,
+        cert: &[HEAD, SQUARES_COUNTS, ANCHORED],
+        words: CHECK,
+        status: Status::CheckNo,
+        line: "no Cycle 1\n",
+    },
+    Check {
+        layer: &SQUARES,
+        masks: None,
+        cert: &[HEAD, "features 3 pieces 4 zones 0\n", CYCLE],
+        words: CHECK,
+        status: Status::CheckNo,
+        line: "no Counts 3 3 0\n",
+    },
 ];
 
 #[test]
 fn conflicts_are_checked_without_masks(rt: HostRuntime) -> Result<(), Fail> {
-    let alloc = rt.alloc();
-    for (counts, cycle, status, line) in CYCLES {
-        let layer = bars(alloc, &SQUARES)?;
-        let cert = text(alloc, &[HEAD, counts, cycle])?;
-        let files = vec![in alloc; ("in", layer), ("cert", cert)]?;
-        let mut host = host(alloc, files, 4096, Vec::new(alloc))?;
-        assert!(rt;
-            says(&rt, alloc, CHECK, &mut host, status, line)?,
-            "at {line}"
-        );
+    for check in &CYCLES {
+        assert!(rt; ends_so(&rt, rt.alloc(), check)?, "at {}", check.line);
     }
     Ok(())
 }
 
+/// A layer, how its split ends, what that says, and what both the split and a check of its files say.
+struct Own {
+    layer: &'static [Rectangle],
+    status: Status,
+    line: &'static str,
+    both: &'static str,
+}
+
+static OWN: [Own; 3] = [
+    Own {
+        layer: &BARS,
+        status: Status::Done,
+        line: "done features 2 pieces 2 zones 0 stitches 0 a 1 b 1\n",
+        both: "done features 2 pieces 2 zones 0 stitches 0 a 1 b 1\nvalid masks stitches 0\n",
+    },
+    Own {
+        layer: &CROWD,
+        status: Status::Done,
+        line: "done features 3 pieces 8 zones 5 stitches 1 a 2 b 6\n",
+        both: "done features 3 pieces 8 zones 5 stitches 1 a 2 b 6\nvalid masks stitches 1\n",
+    },
+    Own {
+        layer: &SQUARES,
+        status: Status::Conflict,
+        line: "conflict cycle 3\n",
+        both: "conflict cycle 3\nvalid conflict cycle 3\n",
+    },
+];
+
+/// Whether a layer is split so, and a check of the split's files is done so.
+fn is_valid<R: Threads + Wait + Sync>(
+    rt: &R,
+    alloc: Global,
+    own: &Own,
+) -> Result<bool, AllocError> {
+    let mut host = host_of_layer(alloc, own.layer)?;
+    let is_split = says(rt, alloc, SPLIT, &mut host, own.status, own.line)?;
+    Ok(is_split && says(rt, alloc, CHECK, &mut host, Status::Done, own.both)?)
+}
+
 #[test]
 fn own_results_are_valid(rt: HostRuntime) -> Result<(), Fail> {
-    let alloc = rt.alloc();
-    let split = "dpl split --layer 1 --rule 30 --overlap 10 in out cert";
-    let cases: [(&[Rectangle], Status, &str, &str); 3] = [
-        (
-            &BARS,
-            Status::Done,
-            "done features 2 pieces 2 zones 0 stitches 0 a 1 b 1\n",
-            "done features 2 pieces 2 zones 0 stitches 0 a 1 b 1\nvalid masks stitches 0\n",
-        ),
-        (
-            &CROWD,
-            Status::Done,
-            "done features 3 pieces 8 zones 5 stitches 1 a 2 b 6\n",
-            "done features 3 pieces 8 zones 5 stitches 1 a 2 b 6\nvalid masks stitches 1\n",
-        ),
-        (
-            &SQUARES,
-            Status::Conflict,
-            "conflict cycle 3\n",
-            "conflict cycle 3\nvalid conflict cycle 3\n",
-        ),
-    ];
-    for (layer, status, line, both) in cases {
-        let files = vec![in alloc; ("in", bars(alloc, layer)?)]?;
-        let mut host = host(alloc, files, 4096, Vec::new(alloc))?;
-        assert!(rt;
-            says(&rt, alloc, split, &mut host, status, line)?,
-            "at {line}"
-        );
-        assert!(rt;
-            says(&rt, alloc, CHECK, &mut host, Status::Done, both)?,
-            "at {both}"
-        );
+    for own in &OWN {
+        assert!(rt; is_valid(&rt, rt.alloc(), own)?, "at {}", own.line);
     }
     Ok(())
 }
