@@ -41,26 +41,31 @@ fn rest_at<R: Wait>(
     rest_of(rt, alloc, deal, &mut hands[at])
 }
 
+/// Whether a hand takes all five tiles that were dealt to two, in this order, and leaves the other one none.
+fn takes_all<R: Wait>(
+    rt: &R,
+    alloc: Global,
+    at: usize,
+    other: usize,
+    want: &[u32],
+) -> Result<bool, AllocError>
+    requires { (at < 2) × (other < 2) }
+{
+    let (deal, mut hands) = Deal::open(alloc, 5, 2)?;
+    let first = rest_at(rt, alloc, &deal, &mut hands, at)?;
+    let second = rest_at(rt, alloc, &deal, &mut hands, other)?;
+    deal.close(hands);
+    Ok(first.as_slice() == want && second.is_empty())
+}
+
 #[test]
 fn five_tiles_are_taken_by_two_hands(rt: HostRuntime) -> Result<(), Fail> {
-    let (deal, mut hands) = Deal::open(rt.alloc(), 5, 2)?;
-    let first = rest_at(&rt, rt.alloc(), &deal, &mut hands, 0)?;
-    let second = rest_at(&rt, rt.alloc(), &deal, &mut hands, 1)?;
-    let wanted = [0, 2, 4, 1, 3];
-    assert_eq!(rt; first.as_slice(), wanted.as_slice());
-    assert_eq!(rt; second.len(), 0);
-    deal.close(hands);
+    assert!(rt; takes_all(&rt, rt.alloc(), 0, 1, &[0, 2, 4, 1, 3])?);
     Ok(())
 }
 
 #[test]
 fn a_hand_takes_its_own_tiles_first(rt: HostRuntime) -> Result<(), Fail> {
-    let (deal, mut hands) = Deal::open(rt.alloc(), 5, 2)?;
-    let first = rest_at(&rt, rt.alloc(), &deal, &mut hands, 1)?;
-    let second = rest_at(&rt, rt.alloc(), &deal, &mut hands, 0)?;
-    let wanted = [1, 3, 0, 2, 4];
-    assert_eq!(rt; first.as_slice(), wanted.as_slice());
-    assert_eq!(rt; second.len(), 0);
-    deal.close(hands);
+    assert!(rt; takes_all(&rt, rt.alloc(), 1, 0, &[1, 3, 0, 2, 4])?);
     Ok(())
 }

@@ -2,8 +2,8 @@
 ghost use Rattle.std.specs.Prelude.{[], ◌∷◌, replicate, IfOk, OnOk};
 ghost use Rattle.dpl_stars.specs.Sums.{AreEdgePairs};
 
-use dpl_board::Job;
-use dpl_list::Edge;
+use dpl_board::{BoardState, Job};
+use dpl_list::{Edge, Id};
 use dpl_stars::{Joined, Star, stars};
 use std::alloc::{AllocError, Global};
 
@@ -98,4 +98,21 @@ pub fn rows_of(joined: &Joined) -> Option<&[Star]> {
         Joined::Stars(rows) => Some(rows.items()),
         Joined::Odd => None,
     }
+}
+
+/// Whether a summary has just these rows: the piece, the root, and whether it is odd.
+pub fn has_rows(joined: &Joined, want: &[(Id, Id, bool)]) -> bool {
+    let Some(rows) = rows_of(joined) else {
+        return false;
+    };
+    rows.len() == want.len()
+        && rows
+            .iter()
+            .zip(want)
+            .all(|(row, want)| (row.piece, row.root, row.odd) == *want)
+}
+
+/// Whether each of so many tiles is posted once.
+pub fn is_posted(state: &BoardState, tiles: u32) -> bool {
+    state.history().len() == tiles as usize && state.first_missing().is_none()
 }

@@ -1,7 +1,7 @@
 //! Workers of a pool of many jobs, held at gates.
 ghost use Rattle.std.specs.Prelude.{[], ◌∷◌, ◌<◌, if◌then◌else◌, replicate};
 
-use crate::jobs::Bare;
+use crate::jobs::{Bare, is_posted};
 use dpl_board::{BoardState, Entry, Job};
 use dpl_pool::{Gate, OpenGate, run_many};
 use dpl_stars::{Joined, stars};
@@ -90,9 +90,14 @@ impl Gate for Tally {
     }
 }
 
-/// Whether each tile of a job is posted once.
-fn is_posted(state: &BoardState, job: &Bare) -> bool {
-    state.history().len() == job.tiles as usize && state.first_missing().is_none()
+/// Whether each tile of each job is posted once.
+fn are_posted(states: &[BoardState], jobs: &[Bare]) -> bool {
+    for (state, job) in states.iter().zip(jobs) {
+        if !is_posted(state, job.tiles) {
+            return false;
+        }
+    }
+    states.len() == jobs.len()
 }
 
 /// Whether numbers came so often.
@@ -103,6 +108,11 @@ fn came(counts: &[AtomicU64], want: &[u64]) -> bool {
         }
     }
     counts.len() == want.len()
+}
+
+/// Whether each of five numbers came once, each of two jobs has posted its first two tiles, and one its third.
+fn have_come(gate: &Tally) -> bool {
+    came(&gate.entered, &[1, 1, 1, 1, 1]) && came(&gate.posted, &[2, 2, 1])
 }
 
 #[test]
@@ -120,12 +130,8 @@ fn tiles_are_numbered_over_all_jobs_and_posted_within_each(rt: HostRuntime) -> R
         Bare { tiles: 0 },
     ];
     let states = run_many(&rt, rt.alloc(), 64, &jobs, &gate)?;
-    assert_eq!(rt; states.len(), 6);
-    for (state, job) in states.iter().zip(jobs.iter()) {
-        assert!(rt; is_posted(state, job));
-    }
-    assert!(rt; came(&gate.entered, &[1, 1, 1, 1, 1]));
-    assert!(rt; came(&gate.posted, &[2, 2, 1]));
+    assert!(rt; are_posted(&states, &jobs));
+    assert!(rt; have_come(&gate));
     Ok(())
 }
 
@@ -133,8 +139,8 @@ fn tiles_are_numbered_over_all_jobs_and_posted_within_each(rt: HostRuntime) -> R
 fn no_jobs_have_no_boards(rt: HostRuntime) -> Result<(), Fail> {
     let none: [Bare; 0] = [];
     let states = run_many(&rt, rt.alloc(), 3, &none, &OpenGate)?;
-    assert_eq!(rt; states.len(), 0);
+    assert!(rt; states.is_empty());
     let states = run_many(&rt, rt.alloc(), 3, &[Bare { tiles: 0 }], &OpenGate)?;
-    assert_eq!(rt; states.len(), 1);
+    assert!(rt; states.len() == 1);
     Ok(())
 }

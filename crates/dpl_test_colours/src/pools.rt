@@ -1,37 +1,36 @@
 //! Workers of a pool, held at gates.
 ghost use Rattle.std.specs.Prelude.{[], ◌∷◌, ◌<◌, replicate};
 
-use crate::jobs::{Bare, PathAndStar, TwoTiles, rows_of};
+use crate::jobs::{Bare, PathAndStar, TwoTiles, has_rows, is_posted, rows_of};
+use dpl_board::BoardState;
 use dpl_pool::{Gate, OpenGate, run_pool};
 use dpl_stars::{Joined, Star};
 use dpl_test_gates::Holds;
 use dpl_turn::Seat;
-use std::alloc::Global;
+use std::alloc::{AllocError, Global};
 use std::sync::Wait;
 use std::sync::atomic::{AtomicU64, Ordering};
 use std::test::*;
 use std::thread::{Threads, yield_now};
 
-/// How many entries the history has, and whether the gate gave up.
+/// Whether two tiles are posted, of which one is held for the other.
 fn meets<R: Threads + Wait + Sync>(
     rt: &R,
     alloc: Global,
     held: u32,
     waits_for_post: bool,
-) -> Option<(usize, bool)>
+) -> Result<bool, AllocError>
     requires { held < 2 }
 {
     let gate = Holds::new(held, 1 - held, waits_for_post);
-    match run_pool(rt, alloc, 2, &TwoTiles, &gate) {
-        Ok(state) => Some((state.history().len(), gate.has_given_up())),
-        Err(_) => None,
-    }
+    let state = run_pool(rt, alloc, 2, &TwoTiles, &gate)?;
+    Ok(state.history().len() == 2 && !gate.has_given_up())
 }
 
 #[test]
 fn two_tiles_meet(rt: HostRuntime) -> Result<(), Fail> {
     for held in 0..2 {
-        assert_eq!(rt; meets(&rt, rt.alloc(), held, false), Some((2, false)));
+        assert!(rt; meets(&rt, rt.alloc(), held, false)?);
     }
     Ok(())
 }
@@ -39,7 +38,7 @@ fn two_tiles_meet(rt: HostRuntime) -> Result<(), Fail> {
 #[test]
 fn posted_early(rt: HostRuntime) -> Result<(), Fail> {
     for held in 0..2 {
-        assert_eq!(rt; meets(&rt, rt.alloc(), held, true), Some((2, false)));
+        assert!(rt; meets(&rt, rt.alloc(), held, true)?);
     }
     Ok(())
 }
@@ -68,6 +67,23 @@ impl Gate for Meeting {
     fn posted(&self, _seat: &Seat, _tile: u32) {}
 }
 
+/// One more than the number of the worker that posted a tile, or 0 where none has.
+fn poster_and_one(state: &BoardState, tile: u32) -> u64 {
+    match state.poster(tile) {
+        Some(by) => u64::from(by) + 1,
+        None => 0,
+    }
+}
+
+/// Whether two workers came, each with a tile of its own, and posted it.
+fn are_by_comers(state: &BoardState, gate: &Meeting) -> bool {
+    let first = gate.came[0].load(Ordering::SeqCst);
+    let second = gate.came[1].load(Ordering::SeqCst);
+    ((first, second) == (1, 2) || (first, second) == (2, 1))
+        && poster_and_one(state, 0) == first
+        && poster_and_one(state, 1) == second
+}
+
 #[test]
 fn workers_come_and_post_under_their_numbers(rt: HostRuntime) -> Result<(), Fail> {
     let gate = Meeting {
@@ -75,31 +91,17 @@ fn workers_come_and_post_under_their_numbers(rt: HostRuntime) -> Result<(), Fail
         gave_up: AtomicU64::new(0),
     };
     let state = run_pool(&rt, rt.alloc(), 2, &TwoTiles, &gate)?;
-    assert_eq!(rt; gate.gave_up.load(Ordering::SeqCst), 0);
-    let came = [0, 1].map(|k: usize| gate.came[k % 2].load(Ordering::SeqCst));
-    assert!(rt; came == [1, 2] || came == [2, 1]);
-    for tile in 0..2u32 {
-        let poster = state.poster(tile).map(|by| u64::from(by) + 1);
-        assert_eq!(rt; poster, Some(came[tile as usize]), "tile {tile}");
-    }
+    assert!(rt; gate.gave_up.load(Ordering::SeqCst) == 0);
+    assert!(rt; are_by_comers(&state, &gate));
     Ok(())
-}
-
-fn has_no_rows(joined: &Joined) -> bool {
-    match joined {
-        Joined::Stars(rows) => rows.items().is_empty(),
-        Joined::Odd => false,
-    }
 }
 
 #[test]
 fn many_workers_post_few_tiles_once(rt: HostRuntime) -> Result<(), Fail> {
     let state = run_pool(&rt, rt.alloc(), 64, &Bare { tiles: 3 }, &OpenGate)?;
-    assert_eq!(rt; state.history().len(), 3);
-    assert_eq!(rt; state.first_missing(), None);
+    assert!(rt; is_posted(&state, 3));
     let state = run_pool(&rt, rt.alloc(), 64, &Bare { tiles: 0 }, &OpenGate)?;
-    assert_eq!(rt; state.history().len(), 0);
-    assert!(rt; has_no_rows(state.joined()));
+    assert!(rt; state.history().is_empty() && has_rows(state.joined(), &[]));
     Ok(())
 }
 
@@ -116,14 +118,19 @@ fn are_around_2(rows: &[Star]) -> bool {
     true
 }
 
+/// Whether a summary has 259 such rows, and no odd cycle.
+fn joins_around_2(joined: &Joined) -> bool {
+    match rows_of(joined) {
+        Some(rows) => rows.len() == 259 && are_around_2(rows),
+        None => false,
+    }
+}
+
 #[test]
 fn a_block_is_folded_before_many_rows_are_posted(rt: HostRuntime) -> Result<(), Fail> {
     let job = PathAndStar::new(rt.alloc(), 256)?;
     let state = run_pool(&rt, rt.alloc(), 1, &job, &OpenGate)?;
-    assert_eq!(rt; state.history().len(), 3);
-    assert_eq!(rt; state.first_missing(), None);
-    let rows = rows_of(state.joined()).ok_or("there is no odd cycle")?;
-    assert_eq!(rt; rows.len(), 259);
-    assert!(rt; are_around_2(rows));
+    assert!(rt; is_posted(&state, 3));
+    assert!(rt; joins_around_2(state.joined()));
     Ok(())
 }

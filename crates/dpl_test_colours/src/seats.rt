@@ -42,16 +42,20 @@ fn by_turns<R: Wait>(rt: &R, alloc: Global) -> Result<ByTurns, AllocError> {
 }
 
 /// The posts that are made.
-const ENTRIES: [Entry; 2] = [Entry { worker: 1, tile: 1 }, Entry { worker: 0, tile: 0 }];
+static ENTRIES: [Entry; 2] = [Entry { worker: 1, tile: 1 }, Entry { worker: 0, tile: 0 }];
+
+/// Whether a board has these posts, and all its tiles.
+fn has_entries(state: &BoardState) -> bool {
+    state.history() == ENTRIES.as_slice() && state.first_missing().is_none()
+}
 
 #[test]
 fn seats_post_and_meet(rt: HostRuntime) -> Result<(), Fail> {
     let found = by_turns(&rt, rt.alloc())?;
     let again = Err(PostFault::Twice { by: 1 });
-    assert_eq!(rt; found.answers, [Ok(()), again, Ok(())]);
-    assert_eq!(rt; found.seen, [1, 0, 1, 2, 1, 2]);
-    assert_eq!(rt; found.state.history(), ENTRIES.as_slice());
-    assert_eq!(rt; found.state.first_missing(), None);
+    assert!(rt; found.answers == [Ok(()), again, Ok(())]);
+    assert!(rt; found.seen == [1, 0, 1, 2, 1, 2]);
+    assert!(rt; has_entries(&found.state));
     Ok(())
 }
 
@@ -83,11 +87,11 @@ fn post_from<R: Wait>(
     Answered { seat, answer }
 }
 
-/// What two threads leave that post a tile each, and what a third post, of the first tile, is answered then.
+/// What two threads that post a tile each are answered, and a third post, of the first tile, and what they leave.
 fn post_from_two_threads<R: Threads + Wait + Sync>(
     rt: &R,
     alloc: Global,
-) -> Result<Option<(BoardState, PostFault)>, AllocError> {
+) -> Result<([Result<(), PostFault>; 3], BoardState), AllocError> {
     let (shared, mut seat) = Board::open(alloc, &TwoTiles, 2)?;
     let board = &shared;
     let other = board.split(&mut seat);
@@ -105,24 +109,23 @@ fn post_from_two_threads<R: Threads + Wait + Sync>(
             ensures table { IsSeatOf board.entry.now.table.shared.table_id result.seat }
         { post_from(rt, board, other, 1, 1, Joined::new(alloc)) },
     );
-    if first.answer.is_err() || second.answer.is_err() {
-        return Ok(None);
-    }
-    let Answered { mut seat, .. } = first;
+    let Answered { mut seat, answer } = first;
     board.rejoin(&mut seat, second.seat);
     let third = board.post(rt, &mut seat, 1, 0, Joined::new(alloc));
     let state = shared.close(rt, seat)?;
-    Ok(third.err().map(|fault| (state, fault)))
+    Ok(([answer, second.answer, third], state))
+}
+
+/// Whether a board has two posts, of tile 0 by worker 0 and of tile 1 by worker 1.
+fn is_by_each(state: &BoardState) -> bool {
+    state.history().len() == 2 && state.poster(0) == Some(0) && state.poster(1) == Some(1)
 }
 
 #[test]
 fn two_threads_post_a_tile_each(rt: HostRuntime) -> Result<(), Fail> {
-    let Some((state, third)) = post_from_two_threads(&rt, rt.alloc())? else {
-        return Err("both posts are made, and the third isn't".into());
-    };
-    assert_eq!(rt; third, PostFault::Twice { by: 0 });
-    assert_eq!(rt; state.history().len(), 2);
-    assert_eq!(rt; state.poster(0), Some(0));
-    assert_eq!(rt; state.poster(1), Some(1));
+    let (answers, state) = post_from_two_threads(&rt, rt.alloc())?;
+    let again = Err(PostFault::Twice { by: 0 });
+    assert!(rt; answers == [Ok(()), Ok(()), again]);
+    assert!(rt; is_by_each(&state));
     Ok(())
 }

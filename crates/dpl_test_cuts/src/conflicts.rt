@@ -1,8 +1,8 @@
 //! Worked layouts of one bar or square to a piece, by a rule of 30.
-ghost use Rattle.std.specs.Prelude.{◌<◌, length};
+ghost use Rattle.std.specs.Prelude.{◌<◌, ◌≤◌, length};
 
 use crate::bars::{Corners, SPACING, features_of};
-use dpl_base::{Edge, Id, WideRect};
+use dpl_base::{Edge, Id, Spacing, WideRect};
 use dpl_crowd::Crowd;
 use dpl_edges::{all_conflicts_by, all_edges, edges_of};
 use dpl_slabs::Parts;
@@ -50,50 +50,64 @@ fn have_conflicts(
     alloc: Global,
     pieces: &Parts,
     owner: &[Id],
+    spacing: Spacing,
     want: &[Edge],
-) -> Result<bool, AllocError> {
+) -> Result<bool, AllocError>
+    requires corner { spacing.corner ≤ spacing.rule }
+{
     if pieces.items().len() != owner.len() {
         return Ok(false);
     }
-    let plan = plan(alloc, pieces, owner, SPACING, 16)?;
+    let plan = plan(alloc, pieces, owner, spacing, 16)?;
     Ok(all_edges(alloc, &plan)?.as_slice() == want)
 }
 
-#[test]
-fn finds_the_conflicts(rt: HostRuntime) -> Result<(), Fail> {
-    for &(rects, owner, want) in &ROWS {
-        let pieces = features_of(rt.alloc(), rects)?;
-        assert!(rt; have_conflicts(rt.alloc(), &pieces, owner, want)?);
-    }
-    Ok(())
+/// Whether a layout whose pieces are of these features has just these conflicts.
+pub fn has_conflicts(
+    alloc: Global,
+    rects: &[Corners],
+    owner: &[Id],
+    spacing: Spacing,
+    want: &[Edge],
+) -> Result<bool, AllocError>
+    requires corner { spacing.corner ≤ spacing.rule }
+{
+    let pieces = features_of(alloc, rects)?;
+    have_conflicts(alloc, &pieces, owner, spacing, want)
 }
 
-/// Whether so many workers find just these conflicts, without a plan.
-fn have_conflicts_by<R: Threads + Sync>(
+#[test]
+fn finds_the_conflicts(rt: HostRuntime) {
+    for &(rects, owner, want) in &ROWS {
+        assert!(rt; has_conflicts(rt.alloc(), rects, owner, SPACING, want) == Ok(true));
+    }
+}
+
+/// Whether so many workers find just these conflicts of a layout, without a plan.
+fn has_conflicts_by<R: Threads + Sync>(
     rt: &R,
     alloc: Global,
-    pieces: &Parts,
+    rects: &[Corners],
     owner: &[Id],
     want: &[Edge],
     workers: u32,
 ) -> Result<bool, AllocError> {
+    let pieces = features_of(alloc, rects)?;
     if pieces.items().len() != owner.len() || workers < 1 {
         return Ok(false);
     }
-    let found = all_conflicts_by(rt, alloc, pieces, owner, SPACING, workers)?;
+    let found = all_conflicts_by(rt, alloc, &pieces, owner, SPACING, workers)?;
     Ok(found.as_slice() == want)
 }
 
 #[test]
-fn workers_find_the_same_conflicts(rt: HostRuntime) -> Result<(), Fail> {
+fn workers_find_the_same_conflicts(rt: HostRuntime) {
     for &(rects, owner, want) in &ROWS {
-        let pieces = features_of(rt.alloc(), rects)?;
-        for workers in [1, 2, 4] {
-            let found = have_conflicts_by(&rt, rt.alloc(), &pieces, owner, want, workers)?;
-            assert!(rt; found, "by {workers} workers");
+        for &workers in &[1, 2, 4] {
+            let is_same = has_conflicts_by(&rt, rt.alloc(), rects, owner, want, workers);
+            assert!(rt; is_same == Ok(true));
         }
     }
-    Ok(())
 }
 
 /// The cycle that searches near single pieces find in pieces of these features; empty where they find none, or where there aren't as many pieces.
@@ -108,25 +122,26 @@ fn cycle_near(alloc: Global, pieces: &Parts, owner: &[Id]) -> Result<Vec<Id>, Al
     }
 }
 
-/// The cycle that searches near single pieces find in a layout whose pieces are of these features.
-fn crowded_cycle(alloc: Global, rects: &[Corners], owner: &[Id]) -> Result<Vec<Id>, AllocError> {
+/// Whether searches near single pieces find this cycle in a layout whose pieces are of these features.
+fn has_cycle(
+    alloc: Global,
+    rects: &[Corners],
+    owner: &[Id],
+    want: &[Id],
+) -> Result<bool, AllocError> {
     let pieces = features_of(alloc, rects)?;
-    cycle_near(alloc, &pieces, owner)
+    Ok(cycle_near(alloc, &pieces, owner)?.as_slice() == want)
 }
 
 /// Three squares, each near both others.
-const TRIANGLE: [Corners; 3] = [(0, 0, 10, 10), (20, 0, 30, 10), (10, 20, 20, 30)];
-
-/// Their cycle, where each is a feature.
-const AROUND: [Id; 3] = [0, 1, 2];
+static TRIANGLE: [Corners; 3] = [(0, 0, 10, 10), (20, 0, 30, 10), (10, 20, 20, 30)];
 
 #[test]
-fn a_cycle_is_found_near_the_first_piece(rt: HostRuntime) -> Result<(), Fail> {
-    let odd = crowded_cycle(rt.alloc(), &TRIANGLE, &[0, 1, 2])?;
-    assert!(rt; odd.as_slice() == AROUND.as_slice());
-    let even = crowded_cycle(rt.alloc(), &TRIANGLE, &[0, 0, 1])?;
-    assert!(rt; even.is_empty());
-    Ok(())
+fn a_cycle_is_found_near_the_first_piece(rt: HostRuntime) {
+    let odd = has_cycle(rt.alloc(), &TRIANGLE, &[0, 1, 2], &[0, 1, 2]);
+    assert!(rt; odd == Ok(true));
+    let even = has_cycle(rt.alloc(), &TRIANGLE, &[0, 0, 1], &[]);
+    assert!(rt; even == Ok(true));
 }
 
 /// Whether the cell of one square is one of four that are near the other piece.
@@ -179,6 +194,6 @@ fn tiles_near(alloc: Global, pieces: &Parts) -> Result<Option<(u32, u32)>, Alloc
 #[test]
 fn tiles_find_their_conflicts(rt: HostRuntime) -> Result<(), Fail> {
     let pieces = features_of(rt.alloc(), &[(0, 0, 10, 10), (28, 33, 38, 43)])?;
-    assert_eq!(rt; tiles_near(rt.alloc(), &pieces)?, Some((200, 4)));
+    assert!(rt; tiles_near(rt.alloc(), &pieces)? == Some((200, 4)));
     Ok(())
 }

@@ -62,12 +62,10 @@ static LEFT: [(&[Corners], &[Corners], &[(Corners, u64)]); 5] = [
 ];
 
 #[test]
-fn marked_zones_are_dropped(rt: HostRuntime) -> Result<(), Fail> {
-    let alloc = rt.alloc();
+fn marked_zones_are_dropped(rt: HostRuntime) {
     for &(rects, marks, want) in &LEFT {
-        assert!(rt; leaves(alloc, rects, marks, want)?, "at {marks:?}");
+        assert!(rt; leaves(rt.alloc(), rects, marks, want) == Ok(true));
     }
-    Ok(())
 }
 
 /// Whether bars, each a piece, have just these edges of marks.
@@ -117,11 +115,10 @@ static JOINED: [(&[Corners], &[Corners], &[Corners], &[Edge]); 5] = [
 
 #[test]
 fn marks_join_pieces_to_the_other_anchor(rt: HostRuntime) -> Result<(), Fail> {
-    let alloc = rt.alloc();
     for &(bars, a, b, want) in &JOINED {
-        assert!(rt; joins(alloc, bars, a, b, want)?, "by {a:?} and {b:?}");
+        assert!(rt; joins(rt.alloc(), bars, a, b, want) == Ok(true));
     }
-    let moved = shifted(alloc, &[(0, 1), (0, 5)])?;
+    let moved = shifted(rt.alloc(), &[(0, 1), (0, 5)])?;
     assert!(rt; moved.as_slice() == [(2, 3), (2, 7)].as_slice());
     Ok(())
 }

@@ -1,49 +1,60 @@
 //! Rectangles of different owners that lie closer than a rule.
 
 use dpl_base::Rect;
-use dpl_join::{Item, Join};
-use std::test::*;
+use dpl_join::{Item, Join, Pair};
+use std::alloc::{AllocError, Global};
+use std::test::Fail;
+
+/// A tall rectangle.
+const TALL: Rect = Rect {
+    x0: 0,
+    y0: 0,
+    x1: 10,
+    y1: 10_000,
+};
+
+/// One that lies 9 columns beside it, one that lies 10 beside it, and the tall one twice.
+static ITEMS: [Item; 4] = [
+    Item {
+        rect: Rect {
+            x0: 19,
+            y0: 9_000,
+            x1: 29,
+            y1: 9_010,
+        },
+        owner: 7,
+    },
+    Item {
+        rect: Rect {
+            x0: 20,
+            y0: 5_000,
+            x1: 30,
+            y1: 5_010,
+        },
+        owner: 8,
+    },
+    Item {
+        rect: TALL,
+        owner: 9,
+    },
+    Item {
+        rect: TALL,
+        owner: 9,
+    },
+];
+
+/// The pairs of the items, in order, by a rule of 10.
+fn sorted_pairs(alloc: Global) -> Result<Vec<Pair>, AllocError> {
+    let items = Vec::from_slice(alloc, &ITEMS)?;
+    let join = Join::of(alloc, items, 10)?;
+    let mut pairs = join.pairs(alloc)?;
+    pairs.sort_unstable();
+    Ok(pairs)
+}
 
 #[test]
 fn pairs_at_the_rule(rt: HostRuntime) -> Result<(), Fail> {
-    let tall = Rect {
-        x0: 0,
-        y0: 0,
-        x1: 10,
-        y1: 10_000,
-    };
-    let near = Rect {
-        x0: 19,
-        y0: 9_000,
-        x1: 29,
-        y1: 9_010,
-    };
-    let far = Rect {
-        x0: 20,
-        y0: 5_000,
-        x1: 30,
-        y1: 5_010,
-    };
-    let mut items = Vec::new(rt.alloc());
-    items.push(Item {
-        rect: near,
-        owner: 7,
-    })?;
-    items.push(Item {
-        rect: far,
-        owner: 8,
-    })?;
-    items.push(Item {
-        rect: tall,
-        owner: 9,
-    })?;
-    items.push(Item {
-        rect: tall,
-        owner: 9,
-    })?;
-    let join = Join::of(rt.alloc(), items, 10)?;
-    let mut pairs = join.pairs(rt.alloc())?;
-    pairs.sort_unstable();
-    assert_eq!(rt; pairs.as_slice(), [(0, 2), (0, 3)].as_slice());
+    let pairs = sorted_pairs(rt.alloc())?;
+    assert!(rt; pairs.as_slice() == [(0, 2), (0, 3)].as_slice());
     Ok(())
 }

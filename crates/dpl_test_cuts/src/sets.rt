@@ -131,10 +131,9 @@ fn many_by<R: Threads + Sync>(
 
 #[test]
 fn workers_make_the_slabs_of_loops_that_one_makes(rt: HostRuntime) -> Result<(), Fail> {
-    let alloc = rt.alloc();
     for &(loops, want) in &LOOPS {
-        for workers in [2, 64] {
-            let set = many_by(&rt, alloc, loops, workers)?;
+        for &workers in &[2, 64] {
+            let set = many_by(&rt, rt.alloc(), loops, workers)?;
             assert!(rt; are(set.rects(), want));
         }
     }
@@ -150,7 +149,7 @@ fn a_loop_closes_without_its_first_point_again(rt: HostRuntime) -> Result<(), Fa
 }
 
 /// What two sets are put together by.
-#[derive(Clone, Copy, Debug)]
+#[derive(Clone, Copy)]
 enum Together {
     Union,
     Minus,
@@ -218,9 +217,9 @@ fn has_slabs(alloc: Global, set: &Slabs, want: &[Corners]) -> Result<bool, Alloc
 fn sets_are_combined(rt: HostRuntime) -> Result<(), Fail> {
     for &(by, want, (x, y), has_first, has_second) in &COMBINED {
         let set = of_two(rt.alloc(), by)?;
-        assert!(rt; has_slabs(rt.alloc(), &set, want)?);
+        assert!(rt; has_slabs(rt.alloc(), &set, want) == Ok(true));
         assert!(rt; set.least() == Some(Pt { x, y }));
-        assert!(rt; set.has(9, 4) == has_first && set.has(5, 5) == has_second);
+        assert!(rt; (set.has(9, 4), set.has(5, 5)) == (has_first, has_second));
     }
     Ok(())
 }

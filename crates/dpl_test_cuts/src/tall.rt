@@ -93,11 +93,16 @@ fn squares(alloc: Global, pace: u8, from: u16, to: u16, bars: u8) -> Result<Slab
 fn has_its_halves(alloc: Global, pace: u8, bars: u8, whole: &Slabs) -> Result<bool, AllocError> {
     let low = squares(alloc, pace, 0, 2500, bars)?;
     let high = squares(alloc, pace, 2500, 5000, bars)?;
-    if !is_in(alloc, &low, whole)? || !is_in(alloc, &high, whole)? {
+    are_halves(alloc, &low, &high, whole)
+}
+
+/// Whether two sets are in another, which has no square beside them.
+fn are_halves(alloc: Global, low: &Slabs, high: &Slabs, whole: &Slabs) -> Result<bool, AllocError> {
+    if !is_in(alloc, low, whole)? || !is_in(alloc, high, whole)? {
         return Ok(false);
     }
-    let rest = whole.minus(alloc, &low)?;
-    Ok(rest.minus(alloc, &high)?.least().is_none())
+    let rest = whole.minus(alloc, low)?;
+    Ok(rest.minus(alloc, high)?.least().is_none())
 }
 
 /// Whether each square of a set is in another.
@@ -105,18 +110,20 @@ fn is_in(alloc: Global, set: &Slabs, other: &Slabs) -> Result<bool, AllocError> 
     Ok(set.equal(&other.meet(alloc, set)?))
 }
 
+/// The pace of a stair, its long bars, and how many slabs it has. Rectangles that overlap are swept slice by slice, and wires that stand apart block by block, or slice by slice with a bar below them. Where many bars cross them, slices are given up.
+static STAIRS: [(u8, u8, usize); 4] = [
+    (1, 0, 5001),
+    (250, 0, 7500),
+    (250, 1, 7501),
+    (250, 66, 57_656),
+];
+
 #[test]
 fn slices_make_the_slabs_of_one_sweep(rt: HostRuntime) -> Result<(), Fail> {
-    // Rectangles that overlap are swept slice by slice, and wires that stand apart block by block, or slice by slice with a bar below them. Where many bars cross them, slices are given up.
-    for (pace, bars, count) in [
-        (1, 0, 5001),
-        (250, 0, 7500),
-        (250, 1, 7501),
-        (250, 66, 57_656),
-    ] {
+    for &(pace, bars, count) in &STAIRS {
         let whole = squares(rt.alloc(), pace, 0, 5000, bars)?;
-        assert_eq!(rt; whole.rects().len(), count);
-        assert!(rt; has_its_halves(rt.alloc(), pace, bars, &whole)?);
+        assert!(rt; whole.rects().len() == count);
+        assert!(rt; has_its_halves(rt.alloc(), pace, bars, &whole) == Ok(true));
     }
     Ok(())
 }
@@ -133,12 +140,15 @@ fn squares_by<R: Threads + Sync>(
     Slabs::of_shapes_by(rt, alloc, rects, Vec::new(alloc), workers)
 }
 
+/// How many workers are asked for.
+static WORKERS: [u32; 5] = [0, 1, 2, 4, 64];
+
 #[test]
 fn workers_make_the_slabs_of_one(rt: HostRuntime) -> Result<(), Fail> {
     // Slices of rectangles that overlap, blocks of two rectangles, which are too small to be shared, slices of wires that stand apart, and slices that are given up.
-    for (pace, bars) in [(1, 0), (250, 0), (250, 1), (250, 66)] {
+    for &(pace, bars, _) in &STAIRS {
         let whole = squares(rt.alloc(), pace, 0, 5000, bars)?;
-        for workers in [0, 1, 2, 4, 64] {
+        for &workers in &WORKERS {
             let slabs = squares_by(&rt, rt.alloc(), pace, bars, workers)?;
             assert!(rt; slabs.equal(&whole));
         }
@@ -146,31 +156,40 @@ fn workers_make_the_slabs_of_one(rt: HostRuntime) -> Result<(), Fail> {
     Ok(())
 }
 
-/// The squares of a stair that none of the rectangles of another has, made at once and as a difference of sets, where both are the same.
-fn without(alloc: Global, pace: u8, turn: u8, holes: u16) -> Result<Option<Slabs>, AllocError> {
+/// The squares of a stair that none of the rectangles of another has, made at once.
+fn without(alloc: Global, pace: u8, turn: u8, holes: u16) -> Result<Slabs, AllocError> {
     let rects = stair(alloc, pace, 0, 5000)?;
     let gone = stair(alloc, turn, 0, holes)?;
-    let left = Slabs::of_rects_without(alloc, &rects, &gone)?;
-    let whole = Slabs::of_rects(alloc, rects)?;
-    let gone = Slabs::of_rects(alloc, gone)?;
-    if !left.equal(&whole.minus(alloc, &gone)?) {
-        return Ok(None);
-    }
-    Ok(Some(left))
+    Slabs::of_rects_without(alloc, &rects, &gone)
 }
+
+/// Whether they are the same as a difference of sets.
+fn is_difference(
+    alloc: Global,
+    left: &Slabs,
+    pace: u8,
+    turn: u8,
+    holes: u16,
+) -> Result<bool, AllocError> {
+    let whole = squares(alloc, pace, 0, 5000, 0)?;
+    let gone = squares(alloc, turn, 0, holes, 0)?;
+    Ok(left.equal(&whole.minus(alloc, &gone)?))
+}
+
+/// The paces of a stair and of holes, how many holes there are, and how many slabs are left. Holes are taken out slice by slice, in rectangles that overlap and in wires that stand apart, some of them as long as the wires.
+static HOLES: [(u8, u8, u16, usize); 4] = [
+    (1, 2, 5000, 2500),
+    (2, 1, 5000, 3687),
+    (250, 1, 500, 7620),
+    (250, 251, 5000, 9724),
+];
 
 #[test]
 fn slices_have_no_square_of_a_hole(rt: HostRuntime) -> Result<(), Fail> {
-    // Holes are taken out slice by slice, in rectangles that overlap and in wires that stand apart, some of them as long as the wires.
-    for (pace, turn, holes, count) in [
-        (1, 2, 5000, 2500),
-        (2, 1, 5000, 3687),
-        (250, 1, 500, 7620),
-        (250, 251, 5000, 9724),
-    ] {
+    for &(pace, turn, holes, count) in &HOLES {
         let left = without(rt.alloc(), pace, turn, holes)?;
-        let left = left.ok_or("both are the same")?;
-        assert_eq!(rt; left.rects().len(), count);
+        assert!(rt; left.rects().len() == count);
+        assert!(rt; is_difference(rt.alloc(), &left, pace, turn, holes) == Ok(true));
     }
     Ok(())
 }

@@ -4,7 +4,6 @@ use dpl_base::Id;
 use dpl_slabs::Parts;
 use dpl_tile::{Plan, plan};
 use std::alloc::{AllocError, Global};
-use std::test::Fail;
 
 /// The corners of a cell, which may reach past the layer.
 type CellCorners = (i64, i64, i64, i64);
@@ -71,10 +70,8 @@ fn last_cell(plan: &Plan) -> CellCorners {
 }
 
 #[test]
-fn lays_tiles(rt: HostRuntime) -> Result<(), Fail> {
+fn lays_tiles(rt: HostRuntime) {
     for &(rects, owner, tile, tiles, last) in &ROWS {
-        let found = laid(rt.alloc(), rects, owner, tile)?;
-        assert!(rt; found == Some((tiles, last)));
+        assert!(rt; laid(rt.alloc(), rects, owner, tile) == Ok(Some((tiles, last))));
     }
-    Ok(())
 }

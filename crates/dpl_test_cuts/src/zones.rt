@@ -4,7 +4,6 @@ use dpl_base::{FARTHEST, Spacing, Zone};
 use dpl_slabs::Slabs;
 use dpl_zone::zones;
 use std::alloc::{AllocError, Global};
-use std::test::Fail;
 
 /// How far from 0 a coordinate may lie.
 const FAR: i32 = FARTHEST as i32;
@@ -128,11 +127,10 @@ fn has_zones(
 }
 
 #[test]
-fn finds_the_zones(rt: HostRuntime) -> Result<(), Fail> {
+fn finds_the_zones(rt: HostRuntime) {
     for &(rects, want) in &ROWS {
-        assert!(rt; has_zones(rt.alloc(), rects, want)?);
+        assert!(rt; has_zones(rt.alloc(), rects, want) == Ok(true));
     }
-    Ok(())
 }
 
 /// How many rungs the ladder has.
@@ -153,20 +151,25 @@ fn zones_of_ladder(alloc: Global) -> Result<Vec<(Corners, u64)>, AllocError> {
     let mut zones = vec![in alloc; ((55, 0, 65, 20), 0)]?;
     for k in 1..RUNGS {
         let low = 40 * k as i32;
-        zones.push(((0, low - 15, 20, low - 5), 0))?;
-        zones.push(((100, low - 15, 120, low - 5), 0))?;
-        zones.push(((55, low, 65, low + 20), 0))?;
+        zones.extend_from_slice(&[
+            ((0, low - 15, 20, low - 5), 0),
+            ((100, low - 15, 120, low - 5), 0),
+            ((55, low, 65, low + 20), 0),
+        ])?;
     }
     Ok(zones)
 }
 
-#[test]
-fn finds_the_zones_of_a_ladder(rt: HostRuntime) -> Result<(), Fail> {
-    let alloc = rt.alloc();
+/// Whether it has just these zones.
+fn ladder_has_zones(alloc: Global) -> Result<bool, AllocError> {
     let rects = ladder(alloc)?;
     let want = zones_of_ladder(alloc)?;
-    assert!(rt; has_zones(alloc, rects.as_slice(), want.as_slice())?);
-    Ok(())
+    has_zones(alloc, rects.as_slice(), want.as_slice())
+}
+
+#[test]
+fn finds_the_zones_of_a_ladder(rt: HostRuntime) {
+    assert!(rt; ladder_has_zones(rt.alloc()) == Ok(true));
 }
 
 /// How far apart the features of a layout beside a crowd stay.
@@ -175,24 +178,35 @@ const WIDE: Spacing = Spacing {
     corner: 300,
 };
 
+/// A rectangle ten times as large.
+fn ten_times(rect: &Corners) -> Corners {
+    let (x0, y0, x1, y1) = *rect;
+    (
+        x0.saturating_mul(10),
+        y0.saturating_mul(10),
+        x1.saturating_mul(10),
+        y1.saturating_mul(10),
+    )
+}
+
+/// Adds a column of bars, which are near one another and those of the columns beside it.
+fn add_column(rects: &mut Vec<Corners>, column: u8) -> Result<(), AllocError> {
+    let left = 4_400 + 22 * column as i32;
+    for row in 0..250u8 {
+        let low = 7 * row as i32;
+        rects.push((left, low, left + 20, low + 5))?;
+    }
+    Ok(())
+}
+
 /// The first of the worked layouts, ten times as large, and beside it a crowd of so many columns of bars, which are near one another wherever a zone could stand.
 fn beside_a_crowd(alloc: Global, columns: u8) -> Result<Vec<Corners>, AllocError> {
     let mut rects = Vec::new(alloc);
-    let (rects_of_first, _) = ROWS[0];
-    for (x0, y0, x1, y1) in rects_of_first {
-        rects.push((
-            x0.saturating_mul(10),
-            y0.saturating_mul(10),
-            x1.saturating_mul(10),
-            y1.saturating_mul(10),
-        ))?;
+    for rect in ROWS[0].0 {
+        rects.push(ten_times(rect))?;
     }
     for column in 0..columns {
-        let left = 4_400 + 22 * column as i32;
-        for row in 0..250u8 {
-            let low = 7 * row as i32;
-            rects.push((left, low, left + 20, low + 5))?;
-        }
+        add_column(&mut rects, column)?;
     }
     Ok(rects)
 }
@@ -226,7 +240,6 @@ fn count_beside(alloc: Global, columns: u8) -> Result<Option<usize>, AllocError>
 
 /// Of a crowded layer the few items with a zone are compared with all others, of another one near items are joined.
 #[test]
-fn a_crowd_has_no_zones(rt: HostRuntime) -> Result<(), Fail> {
-    assert_eq!(rt; count_beside(rt.alloc(), 60)?, Some(7));
-    Ok(())
+fn a_crowd_has_no_zones(rt: HostRuntime) {
+    assert!(rt; count_beside(rt.alloc(), 60) == Ok(Some(7)));
 }

@@ -4,7 +4,7 @@ use dpl_shapes::boundary_loop;
 use std::test::*;
 
 /// An L of six corners, with its first corner once more at its end.
-const CORNERS: [Pt; 7] = [
+static CORNERS: [Pt; 7] = [
     Pt { x: 0, y: 0 },
     Pt { x: 20, y: 0 },
     Pt { x: 20, y: 10 },
@@ -15,12 +15,12 @@ const CORNERS: [Pt; 7] = [
 ];
 
 /// A triangle: its last edge is slanted.
-const TRIANGLE: [Pt; 3] = [Pt { x: 0, y: 0 }, Pt { x: 20, y: 0 }, Pt { x: 20, y: 10 }];
+static TRIANGLE: [Pt; 3] = [Pt { x: 0, y: 0 }, Pt { x: 20, y: 0 }, Pt { x: 20, y: 10 }];
 
 #[test]
 fn boundaries_have_loops(rt: HostRuntime) -> Result<(), Fail> {
     let drawn = boundary_loop(rt.alloc(), &CORNERS)?;
-    assert_eq!(rt; drawn.items(), CORNERS.as_slice());
+    assert!(rt; drawn.items() == CORNERS.as_slice());
     assert!(rt; boundary_loop(rt.alloc(), &TRIANGLE).is_err());
     Ok(())
 }

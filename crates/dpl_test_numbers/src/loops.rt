@@ -1,12 +1,13 @@
 //! The shapes of boundaries and a path behind a reference, and their loops.
-use dpl_base::{Pt, Rect};
+use dpl_base::{Loop, Pt, Rect};
 use dpl_flatten::{Layer, flatten, shapes_of, top_of};
-use dpl_syntax::read_library;
+use dpl_syntax::{Library, read_library};
 use dpl_test_sample::{Part, layout};
-use std::test::*;
+use std::alloc::Global;
+use std::test::Fail;
 
 /// A rectangle of 20 by 10, a corner below it, and a path of width 4 and length 40 above it.
-const SUB: [Part<'static>; 14] = [
+static SUB: [Part<'static>; 14] = [
     Part::Begin(b"SUB\0"),
     Part::Bar(1, [0, 0, 20, 10]),
     Part::Record(8, 0, &[]),
@@ -27,7 +28,7 @@ const SUB: [Part<'static>; 14] = [
 ];
 
 /// A copy of it that makes a quarter turn, and then moves by (100,200).
-const TOP: [Part<'static>; 8] = [
+static TOP: [Part<'static>; 8] = [
     Part::Begin(b"TOP\0"),
     Part::Record(10, 0, &[]),
     Part::Record(18, 6, b"SUB\0"),
@@ -88,19 +89,53 @@ const EMPTY: Layer = Layer {
     datatype: 0,
 };
 
+/// The rectangles of the layer.
+static RECTS: [Rect; 2] = [BOUNDARY, PATH];
+
+/// Its loops, where rectangles are loops too.
+static LOOPS: [&[Pt]; 3] = [&CORNER, &AROUND_BOUNDARY, &AROUND_PATH];
+
+/// Whether loops go through these points.
+fn are_through(loops: &[Loop], want: &[&[Pt]]) -> bool {
+    loops.len() == want.len() && loops.iter().zip(want).all(|(l, w)| l.items() == *w)
+}
+
+/// Whether a layer has just these rectangles, and just these loops.
+fn has_shapes(
+    alloc: Global,
+    library: &Library<'_>,
+    layer: Layer,
+    rects: &[Rect],
+    loops: &[&[Pt]],
+) -> bool {
+    let Ok(top) = top_of(alloc, library, None) else {
+        return false;
+    };
+    match shapes_of(alloc, library, top, layer) {
+        Ok(shapes) => shapes.rects.as_slice() == rects && are_through(&shapes.loops, loops),
+        Err(_) => false,
+    }
+}
+
 #[test]
 fn shapes_behind_a_reference(rt: HostRuntime) -> Result<(), Fail> {
     let bytes = layout(rt.alloc(), &[&SUB, &TOP])?;
     assert!(rt; bytes.len() <= 268_435_456);
     let library = read_library(rt.alloc(), &bytes)?;
-    let top = top_of(rt.alloc(), &library, None)?;
-    let shapes = shapes_of(rt.alloc(), &library, top, DRAWN)?;
-    assert_eq!(rt; shapes.rects.as_slice(), [BOUNDARY, PATH].as_slice());
-    assert_eq!(rt; shapes.loops.len(), 1);
-    assert_eq!(rt; shapes.loops[0].items(), CORNER.as_slice());
-    let shapes = shapes_of(rt.alloc(), &library, top, EMPTY)?;
-    assert!(rt; shapes.rects.is_empty() && shapes.loops.is_empty());
+    assert!(rt; has_shapes(rt.alloc(), &library, DRAWN, &RECTS, &LOOPS[..1]));
+    assert!(rt; has_shapes(rt.alloc(), &library, EMPTY, &[], &[]));
     Ok(())
+}
+
+/// Whether a layer has just these loops.
+fn has_loops(alloc: Global, library: &Library<'_>, layer: Layer, loops: &[&[Pt]]) -> bool {
+    let Ok(top) = top_of(alloc, library, None) else {
+        return false;
+    };
+    match flatten(alloc, library, top, layer) {
+        Ok(found) => are_through(&found, loops),
+        Err(_) => false,
+    }
 }
 
 #[test]
@@ -108,12 +143,7 @@ fn loops_behind_a_reference(rt: HostRuntime) -> Result<(), Fail> {
     let bytes = layout(rt.alloc(), &[&SUB, &TOP])?;
     assert!(rt; bytes.len() <= 268_435_456);
     let library = read_library(rt.alloc(), &bytes)?;
-    let top = top_of(rt.alloc(), &library, None)?;
-    let loops = flatten(rt.alloc(), &library, top, DRAWN)?;
-    assert_eq!(rt; loops.len(), 3);
-    assert_eq!(rt; loops[0].items(), CORNER.as_slice());
-    assert_eq!(rt; loops[1].items(), AROUND_BOUNDARY.as_slice());
-    assert_eq!(rt; loops[2].items(), AROUND_PATH.as_slice());
-    assert!(rt; flatten(rt.alloc(), &library, top, EMPTY)?.is_empty());
+    assert!(rt; has_loops(rt.alloc(), &library, DRAWN, &LOOPS));
+    assert!(rt; has_loops(rt.alloc(), &library, EMPTY, &[]));
     Ok(())
 }

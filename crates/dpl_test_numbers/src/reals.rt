@@ -2,7 +2,7 @@
 use dpl_reals::Real;
 
 /// The first three bytes, whether it is 1, and the quarter turns.
-const ROWS: [([u8; 3], bool, Option<u8>); 16] = [
+static ROWS: [([u8; 3], bool, Option<u8>); 16] = [
     ([0x41, 0x10, 0], true, None),
     ([0x42, 0x01, 0], true, None),
     ([0x42, 0x5A, 0], false, Some(1)),
@@ -23,9 +23,8 @@ const ROWS: [([u8; 3], bool, Option<u8>); 16] = [
 
 #[test]
 fn reals_of_a_table(rt: HostRuntime) {
-    for ([a, b, c], one, turns) in ROWS {
+    for &([a, b, c], one, turns) in &ROWS {
         let real = Real::of([a, b, c, 0, 0, 0, 0, 0]);
-        assert_eq!(rt; real.is_one(), one);
-        assert_eq!(rt; real.quarter_turns(), turns);
+        assert!(rt; real.is_one() == one && real.quarter_turns() == turns);
     }
 }
