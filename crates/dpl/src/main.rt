@@ -1,11 +1,6 @@
 //! `dpl`, a double-patterning mask decomposer.
 #![tactic(auto)]
 
-mod fault;
-mod files;
-#[cfg(test)]
-mod tests;
-
 ghost use Rattle.std.specs.Prelude.{◌≡◌, IfOk, map, string_bytes};
 ghost use Rattle.std.specs.Vec.Iter.{into_iter_items};
 ghost use Rattle.std.specs.Process.{exit_status};
@@ -14,7 +9,7 @@ ghost use Rattle.dpl_run.specs.Outcome.{code_of};
 ghost use Rattle.dpl_run.specs.declared.status.Status.{Status};
 ghost use Rattle.dpl.specs.Ends.{IsEnd, words_of};
 
-use crate::files::FileHost;
+use dpl_files::FileHost;
 use dpl_pool::OpenGate;
 use dpl_run::{Status, run};
 use std::alloc::{AllocError, Global};
