@@ -2,7 +2,7 @@
 ghost use Rattle.std.specs.Prelude.{◌≤◌, IfOk, OnOk};
 ghost use Rattle.dpl_spec_split.specs.Loops.{farthest, IsRectWithin, AreRectsWithin};
 
-use dpl_base::Rect;
+use dpl_base::{FARTHEST, Rect};
 use dpl_slabs::Slabs;
 use std::alloc::{AllocError, Global};
 use std::test::Fail;
@@ -125,6 +125,36 @@ fn slices_make_the_slabs_of_one_sweep(rt: HostRuntime) -> Result<(), Fail> {
         assert!(rt; whole.rects().len() == count);
         assert!(rt; has_its_halves(rt.alloc(), pace, bars, &whole) == Ok(true));
     }
+    Ok(())
+}
+
+/// Adds a bar beside a stair, up to the last row that a layer can have.
+fn add_tower(rects: &mut Vec<Rect>) -> Result<(), AllocError>
+    requires { AreRectsWithin farthest rects.old.items }
+    ensures { OnOk result (AreRectsWithin farthest rects.new.items) }
+{
+    rects.push(Rect {
+        x0: 3_000_000,
+        y0: 0,
+        x1: 3_000_010,
+        y1: FARTHEST as i32,
+    })?;
+    Ok(())
+}
+
+/// The squares of a stair whose rectangles overlap, and of a bar beside it up to the last row.
+fn towered(alloc: Global) -> Result<Slabs, AllocError> {
+    let mut rects = stair(alloc, 1, 0, 5000)?;
+    add_tower(&mut rects)?;
+    Slabs::of_rects(alloc, rects)
+}
+
+#[test]
+fn slices_go_up_to_the_last_row(rt: HostRuntime) -> Result<(), Fail> {
+    let set = towered(rt.alloc())?;
+    assert!(rt; set.rects().len() == 5002);
+    assert!(rt; set.has(3_000_000, FARTHEST - 1));
+    assert!(rt; !set.has(3_000_000, FARTHEST));
     Ok(())
 }
 

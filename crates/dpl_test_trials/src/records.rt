@@ -124,6 +124,16 @@ static REFUSED: [(&[Part<'static>], &str); 15] = [
         ],
         "DuplicateStructure 194",
     ),
+    (
+        &[
+            Part::Begin(b"A\0"),
+            BAR,
+            Part::End,
+            Part::Begin(b"A\0"),
+            Part::End,
+        ],
+        "DuplicateStructure 192",
+    ),
 ];
 
 #[test]
