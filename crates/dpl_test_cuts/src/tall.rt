@@ -1,5 +1,5 @@
 //! Tall strips, which are swept slice by slice, block by block or at once.
-ghost use Rattle.std.specs.Prelude.{◌≤◌, IfOk, OnOk};
+ghost use Rattle.std.specs.Prelude.{◌<◌, ◌≤◌, IfOk, OnOk};
 ghost use Rattle.dpl_spec_split.specs.Loops.{farthest, IsRectWithin, AreRectsWithin};
 
 use dpl_base::{FARTHEST, Rect};
@@ -128,33 +128,45 @@ fn slices_make_the_slabs_of_one_sweep(rt: HostRuntime) -> Result<(), Fail> {
     Ok(())
 }
 
-/// Adds a bar beside a stair, up to the last row that a layer can have.
-fn add_tower(rects: &mut Vec<Rect>) -> Result<(), AllocError>
-    requires { AreRectsWithin farthest rects.old.items }
+/// One of the rectangles of a stair that goes up to the last row that a layer can have, as `step` has it at pace 1.
+fn high_step(k: u16) -> Rect
+    requires { k < 5000 }
+    ensures { IsRectWithin farthest result }
+{
+    let left = left_of(1, k) as i32;
+    let low = FARTHEST as i32 - 14_998 + 2 * k as i32;
+    Rect {
+        x0: left,
+        y0: low,
+        x1: left + 200,
+        y1: low + 5000,
+    }
+}
+
+/// Adds a rectangle of that stair.
+fn add_high_step(rects: &mut Vec<Rect>, k: u16) -> Result<(), AllocError>
+    requires few { k < 5000 }
+    requires within { AreRectsWithin farthest rects.old.items }
     ensures { OnOk result (AreRectsWithin farthest rects.new.items) }
 {
-    rects.push(Rect {
-        x0: 3_000_000,
-        y0: 0,
-        x1: 3_000_010,
-        y1: FARTHEST as i32,
-    })?;
+    rects.push(high_step(k))?;
     Ok(())
 }
 
-/// The squares of a stair whose rectangles overlap, and of a bar beside it up to the last row.
-fn towered(alloc: Global) -> Result<Slabs, AllocError> {
-    let mut rects = stair(alloc, 1, 0, 5000)?;
-    add_tower(&mut rects)?;
+/// The squares of that stair.
+fn high_stair(alloc: Global) -> Result<Slabs, AllocError> {
+    let mut rects = Vec::new(alloc);
+    for k in 0..5000 {
+        add_high_step(&mut rects, k)?;
+    }
     Slabs::of_rects(alloc, rects)
 }
 
 #[test]
 fn slices_go_up_to_the_last_row(rt: HostRuntime) -> Result<(), Fail> {
-    let set = towered(rt.alloc())?;
-    assert!(rt; set.rects().len() == 5002);
-    assert!(rt; set.has(3_000_000, FARTHEST - 1));
-    assert!(rt; !set.has(3_000_000, FARTHEST));
+    let set = high_stair(rt.alloc())?;
+    assert!(rt; set.rects().len() == 5001);
+    assert!(rt; set.has(5050, FARTHEST - 1));
     Ok(())
 }
 
