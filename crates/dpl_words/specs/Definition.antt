@@ -1,11 +1,15 @@
 -- The command line, as `clap` is told of it. A rule is clap's word for an argument, and a shape its word for a command.
-use Rattle.std.specs.Prelude.{ℕ, true, false, pos, Some, List, [], ◌∷◌, codes}
+use Rattle.std.specs.Prelude.{ℕ, true, false, pos, Some, List, [], ◌∷◌, codes, map}
 use Rattle.clap.specs.Walk.{Rule, Text}
 use Rattle.clap.specs.Simple.{App, Shape, new_rule, new_shape}
 use Rattle.clap.specs.declared.builder.action.ArgAction.TheVariants.{Append, SetTrue}
 use Rattle.clap.specs.declared.builder.value_parser.ValueParser.TheVariants as vp
 use Rattle.dpl_words.specs.declared.definition.Argument.{Argument}
-use Rattle.dpl_words.specs.declared.definition.Argument.TheVariants.{RequiredNumber, OptionalNumber, NumberIfGiven, RequiredWord, OptionalText, Flag, FileName, RepeatedNumber}
+use Rattle.dpl_words.specs.declared.definition.Given.{Given}
+use Rattle.dpl_words.specs.declared.definition.Given.TheVariants.{Required, Default, IfAny, ByPlace}
+use Rattle.dpl_words.specs.declared.definition.Level.{Level}
+use Rattle.dpl_words.specs.declared.definition.Values.{Values}
+use Rattle.dpl_words.specs.declared.definition.Values.TheVariants as values
 
 -- an option that must be given, with a whole number from low to high
 abbrev pub required_number : Text → ℕ → ℕ → Rule
@@ -61,20 +65,39 @@ repeated_number id low high = record (new_rule id) {
   parser = Some (vp.Signed (pos low) (pos high));
 }
 
+-- an option of this name
+abbrev pub new_option : Text → Rule
+new_option id = record (new_rule id) { long = Some id }
+
+-- the rule of an argument that is given so, with any value
+abbrev pub rule_given : Given → Text → Rule
+rule_given Required id = record (new_option id) { required = true }
+rule_given (Default text) id = record (new_option id) { defaults = text.now ∷ [] }
+rule_given IfAny id = new_option id
+rule_given ByPlace id = record (new_rule id) { required = true }
+
+-- the rule with these values
+abbrev pub rule_reading : Values → Rule → Rule
+rule_reading (values.Number low high) rule = record rule { parser = Some (vp.Signed (pos low) (pos high)) }
+rule_reading values.Word rule = record rule { parser = Some (vp.Unsigned 0 18446744073709551615) }
+rule_reading values.Text rule = rule
+rule_reading values.Flag rule = record rule { action = Some SetTrue }
+rule_reading (values.Numbers low high) rule = record rule {
+  action = Some Append;
+  parser = Some (vp.Signed (pos low) (pos high));
+}
+
 -- the rule of an argument
 abbrev pub rule_for : Argument → Rule
-rule_for (RequiredNumber id low high) = required_number id.now low high
-rule_for (OptionalNumber id low high default) = optional_number id.now low high default.now
-rule_for (NumberIfGiven id low high) = number_if_given id.now low high
-rule_for (RequiredWord id) = required_word id.now
-rule_for (OptionalText id) = optional_text id.now
-rule_for (Flag id) = flag id.now
-rule_for (FileName id) = file_name id.now
-rule_for (RepeatedNumber id low high) = repeated_number id.now low high
+rule_for a = rule_reading a.2 (rule_given a.1 a.0.now)
 
 -- a command of this name, with these rules
 abbrev pub shape_with : Text → List Rule → Shape
 shape_with name rules = record (new_shape name) { rules = rules }
+
+-- the shape of a subcommand
+abbrev pub shape_for : Level → Shape
+shape_for level = shape_with level.name.now (map rule_for level.arguments.now)
 
 abbrev pub split_shape : Shape
 split_shape = record (new_shape (codes "split")) {

@@ -1,53 +1,83 @@
 //! What `clap` is told of the command line.
-ghost use Rattle.std.specs.Prelude.{◌≡◌, ℕ, pos, Some, IfOk, false, true, [], map};
+ghost use Rattle.std.specs.Prelude.{◌≡◌, pos, IfOk, false, [], map};
 ghost use Rattle.clap.specs.Walk.{rule_of};
 ghost use Rattle.clap.specs.Simple.{app_of, with_subcommand};
 ghost use Rattle.clap.specs.declared.builder.command.Command.TheViews.{out-Command as fields_of};
-ghost use Rattle.dpl_words.specs.Definition.{batch_shape, check_shape, demo_shape, dpl_app, edit_shape, file_name, flag, number_if_given, optional_number, optional_text, repeated_number, required_number, required_word, rule_for, shape_with, split_shape, top_shape};
+ghost use Rattle.dpl_words.specs.Definition.{dpl_app, new_option, rule_for, rule_given, rule_reading, shape_for, top_shape};
 ghost use Rattle.clap.specs.declared.builder.value_parser.ValueParser.TheVariants as vp;
 
+use Given::{ByPlace, Default, IfAny, Required};
+use Values::{Flag, Number, Numbers, Text, Word};
 use clap::builder::ValueParser;
 use clap::{Arg, ArgAction, Command, value_parser};
 use std::alloc::{AllocError, Global};
 
-/// An argument of a subcommand, by its name.
+/// How an argument is given.
 #[derive(Clone, Copy)]
-enum Argument<'a> {
-    /// An option that must be given, with a whole number from the first to the second.
-    RequiredNumber(&'a str, u32, u32),
-    /// An option with a whole number from the first to the second, and a default.
-    OptionalNumber(&'a str, u32, u32, &'a str),
-    /// An option with a whole number from the first to the second, that may be left out.
-    NumberIfGiven(&'a str, u32, u32),
-    /// An option that must be given, with any whole number of 64 bits.
-    RequiredWord(&'a str),
-    /// An option with a text.
-    OptionalText(&'a str),
-    /// A flag, that may be left out.
-    Flag(&'a str),
-    /// The name of a file, by its place.
-    FileName(&'a str),
-    /// A whole number from the first to the second, by its place, that is given once or more.
-    RepeatedNumber(&'a str, u32, u32),
+enum Given<'a> {
+    /// As an option that must be given.
+    Required,
+    /// As an option with a default.
+    Default(&'a str),
+    /// As an option that may be left out.
+    IfAny,
+    /// By its place, where it must be given.
+    ByPlace,
 }
 
-impl<'a> Argument<'a> {
-    /// The argument as `clap` takes it.
-    fn arg(self, alloc: Global) -> Arg<'a>
-        ensures defined { rule_of result ≡ rule_for self.entry }
+impl<'a> Given<'a> {
+    /// The argument of this name, with any value.
+    fn arg(self, alloc: Global, id: &'a str) -> Arg<'a>
+        ensures defined { rule_of result ≡ rule_given self.entry id.entry.now }
         ensures local { result.global ≡ false }
     {
         match self {
-            Argument::RequiredNumber(id, low, high) => { required_number_arg(alloc, id, low, high) }
-            Argument::OptionalNumber(id, low, high, default) => {
-                optional_number_arg(alloc, id, low, high, default)
+            Required => option(alloc, id).required(true),
+            Default(text) => option(alloc, id).default_value(text),
+            IfAny => option(alloc, id),
+            ByPlace => Arg::new(alloc, id).required(true),
+        }
+    }
+}
+
+/// An option of this name.
+fn option<'a>(alloc: Global, id: &'a str) -> Arg<'a>
+    ensures defined { rule_of result ≡ new_option id.entry.now }
+    ensures local { result.global ≡ false }
+{
+    Arg::new(alloc, id).long(id)
+}
+
+/// What the values of an argument are.
+#[derive(Clone, Copy)]
+enum Values {
+    /// A whole number from the first to the second.
+    Number(u32, u32),
+    /// Any whole number of 64 bits.
+    Word,
+    /// A text.
+    Text,
+    /// None: the argument is given or left out.
+    Flag,
+    /// Whole numbers from the first to the second, one or more. Options may stand between them.
+    Numbers(u32, u32),
+}
+
+impl Values {
+    /// The argument with these values.
+    fn of<'a>(self, arg: Arg<'a>) -> Arg<'a>
+        ensures defined { rule_of result ≡ rule_reading self (rule_of arg.entry) }
+        ensures local { result.global ≡ arg.entry.global }
+    {
+        match self {
+            Number(low, high) => arg.value_parser(number_parser(low, high)),
+            Word => arg.value_parser(value_parser!(u64)),
+            Text => arg,
+            Flag => arg.action(ArgAction::SetTrue),
+            Numbers(low, high) => {
+                arg.action(ArgAction::Append)
+                    .value_parser(number_parser(low, high))
             }
-            Argument::NumberIfGiven(id, low, high) => { number_if_given_arg(alloc, id, low, high) }
-            Argument::RequiredWord(id) => required_word_arg(alloc, id),
-            Argument::OptionalText(id) => Arg::new(alloc, id).long(id),
-            Argument::Flag(id) => flag_arg(alloc, id),
-            Argument::FileName(id) => Arg::new(alloc, id).required(true),
-            Argument::RepeatedNumber(id, low, high) => repeated_number_arg(alloc, id, low, high),
         }
     }
 }
@@ -59,206 +89,127 @@ fn number_parser<'a>(low: u32, high: u32) -> ValueParser<'a>
     value_parser!(u32).range(i64::from(low)..=i64::from(high))
 }
 
-/// An option that must be given, with a whole number.
-fn required_number_arg<'a>(alloc: Global, id: &'a str, low: u32, high: u32) -> Arg<'a>
-    ensures defined { rule_of result ≡ required_number id.entry.now low high }
-    ensures local { result.global ≡ false }
-{
-    Arg::new(alloc, id)
-        .long(id)
-        .required(true)
-        .value_parser(number_parser(low, high))
-}
+/// An argument of a subcommand: its name, how it is given, and what its values are.
+#[derive(Clone, Copy)]
+struct Argument<'a>(&'a str, Given<'a>, Values);
 
-/// An option with a whole number, and a default.
-fn optional_number_arg<'a>(
-    alloc: Global,
-    id: &'a str,
-    low: u32,
-    high: u32,
-    default: &'a str,
-) -> Arg<'a>
-    ensures defined { rule_of result ≡ optional_number id.entry.now low high default.entry.now }
-    ensures local { result.global ≡ false }
-{
-    Arg::new(alloc, id)
-        .long(id)
-        .default_value(default)
-        .value_parser(number_parser(low, high))
-}
-
-/// An option with a whole number, that may be left out.
-fn number_if_given_arg<'a>(alloc: Global, id: &'a str, low: u32, high: u32) -> Arg<'a>
-    ensures defined { rule_of result ≡ number_if_given id.entry.now low high }
-    ensures local { result.global ≡ false }
-{
-    Arg::new(alloc, id)
-        .long(id)
-        .value_parser(number_parser(low, high))
-}
-
-/// An option that must be given, with any whole number of 64 bits.
-fn required_word_arg<'a>(alloc: Global, id: &'a str) -> Arg<'a>
-    ensures defined { rule_of result ≡ required_word id.entry.now }
-    ensures local { result.global ≡ false }
-{
-    let parser = value_parser!(u64);
-    Arg::new(alloc, id)
-        .long(id)
-        .required(true)
-        .value_parser(parser)
-}
-
-/// A flag, that may be left out.
-fn flag_arg<'a>(alloc: Global, id: &'a str) -> Arg<'a>
-    ensures defined { rule_of result ≡ flag id.entry.now }
-    ensures local { result.global ≡ false }
-{
-    Arg::new(alloc, id).long(id).action(ArgAction::SetTrue)
-}
-
-/// A whole number, by its place, that is given once or more. Options may stand between its values.
-fn repeated_number_arg<'a>(alloc: Global, id: &'a str, low: u32, high: u32) -> Arg<'a>
-    ensures defined { rule_of result ≡ repeated_number id.entry.now low high }
-    ensures local { result.global ≡ false }
-{
-    Arg::new(alloc, id)
-        .action(ArgAction::Append)
-        .required(true)
-        .value_parser(number_parser(low, high))
-}
-
-/// A command of this name, with these arguments.
-fn command_with<'a>(
-    alloc: Global,
-    name: &'a str,
-    arguments: &[Argument<'a>],
-) -> Result<Command<'a>, AllocError>
-    ensures shape { IfOk result (λ c. app_of c ≡ record { top = shape_with name.entry.now (map rule_for arguments.now); subs = [] }) }
-    ensures local { IfOk result (λ c. (fields_of c).has_globals ≡ false) }
-{
-    let mut command = Command::new(alloc, name);
-    for argument in arguments {
-        command = command.arg(argument.arg(alloc))?;
+impl<'a> Argument<'a> {
+    /// The argument as `clap` takes it.
+    fn arg(self, alloc: Global) -> Arg<'a>
+        ensures defined { rule_of result ≡ rule_for self.entry }
+        ensures local { result.global ≡ false }
+    {
+        self.2.of(self.1.arg(alloc, self.0))
     }
-    Ok(command)
 }
 
-/// Adds a subcommand of this name, with these arguments.
-fn with_level<'a>(
-    alloc: Global,
-    command: Command<'a>,
+/// A subcommand.
+#[derive(Clone, Copy)]
+struct Level<'a> {
     name: &'a str,
-    arguments: &[Argument<'a>],
-) -> Result<Command<'a>, AllocError>
-    ensures { IfOk result (λ c. app_of c ≡ with_subcommand (app_of command.entry) (shape_with name.entry.now (map rule_for arguments.now))) }
-{
-    let level = command_with(alloc, name, arguments)?;
-    command.subcommand(level)
+    arguments: &'a [Argument<'a>],
 }
 
-/// Adds the subcommand `split`.
-fn with_split<'a>(alloc: Global, command: Command<'a>) -> Result<Command<'a>, AllocError>
-    ensures { IfOk result (λ c. app_of c ≡ with_subcommand (app_of command.entry) split_shape) }
-{
-    let arguments = [
-        Argument::RequiredNumber("layer", 0, 65_535),
-        Argument::RequiredNumber("rule", 1, 1_000_000),
-        Argument::RequiredNumber("overlap", 1, 1_000_000),
-        Argument::NumberIfGiven("corner", 1, 1_000_000),
-        Argument::OptionalNumber("datatype", 0, 65_535, "0"),
-        Argument::OptionalText("top"),
-        Argument::OptionalNumber("a", 0, 65_535, "101"),
-        Argument::OptionalNumber("b", 0, 65_535, "102"),
-        Argument::NumberIfGiven("mark-a", 0, 65_535),
-        Argument::NumberIfGiven("mark-b", 0, 65_535),
-        Argument::OptionalNumber("tile", 1, 1_073_741_824, "4096"),
-        Argument::OptionalNumber("workers", 1, 64, "4"),
-        Argument::Flag("fewer"),
-        Argument::FileName("in"),
-        Argument::FileName("out"),
-        Argument::FileName("cert"),
-    ];
-    with_level(alloc, command, "split", &arguments)
+impl<'a> Level<'a> {
+    /// The subcommand as `clap` takes it.
+    fn command(self, alloc: Global) -> Result<Command<'a>, AllocError>
+        ensures shape { IfOk result (λ c. app_of c ≡ record { top = shape_for self.entry; subs = [] }) }
+        ensures local { IfOk result (λ c. (fields_of c).has_globals ≡ false) }
+    {
+        let mut command = Command::new(alloc, self.name);
+        for argument in self.arguments {
+            command = command.arg(argument.arg(alloc))?;
+        }
+        Ok(command)
+    }
 }
 
-/// Adds the subcommand `check`.
-fn with_check<'a>(alloc: Global, command: Command<'a>) -> Result<Command<'a>, AllocError>
-    ensures { IfOk result (λ c. app_of c ≡ with_subcommand (app_of command.entry) check_shape) }
-{
-    let arguments = [
-        Argument::RequiredNumber("layer", 0, 65_535),
-        Argument::RequiredNumber("rule", 1, 1_000_000),
-        Argument::RequiredNumber("overlap", 1, 1_000_000),
-        Argument::NumberIfGiven("corner", 1, 1_000_000),
-        Argument::OptionalNumber("datatype", 0, 65_535, "0"),
-        Argument::OptionalText("top"),
-        Argument::OptionalNumber("a", 0, 65_535, "101"),
-        Argument::OptionalNumber("b", 0, 65_535, "102"),
-        Argument::NumberIfGiven("mark-a", 0, 65_535),
-        Argument::NumberIfGiven("mark-b", 0, 65_535),
-        Argument::FileName("in"),
-        Argument::FileName("out"),
-        Argument::FileName("cert"),
-    ];
-    with_level(alloc, command, "check", &arguments)
-}
-
-/// Adds the subcommand `demo`.
-fn with_demo<'a>(alloc: Global, command: Command<'a>) -> Result<Command<'a>, AllocError>
-    ensures { IfOk result (λ c. app_of c ≡ with_subcommand (app_of command.entry) demo_shape) }
-{
-    let arguments = [
-        Argument::RequiredWord("seed"),
-        Argument::RequiredNumber("rows", 1, 1_000_000),
-        Argument::OptionalNumber("tile", 1, 1_073_741_824, "4096"),
-        Argument::OptionalNumber("workers", 1, 64, "4"),
-    ];
-    with_level(alloc, command, "demo", &arguments)
-}
-
-/// Adds the subcommand `batch`.
-fn with_batch<'a>(alloc: Global, command: Command<'a>) -> Result<Command<'a>, AllocError>
-    ensures { IfOk result (λ c. app_of c ≡ with_subcommand (app_of command.entry) batch_shape) }
-{
-    let arguments = [
-        Argument::RequiredNumber("rule", 1, 1_000_000),
-        Argument::RequiredNumber("overlap", 1, 1_000_000),
-        Argument::NumberIfGiven("corner", 1, 1_000_000),
-        Argument::OptionalNumber("datatype", 0, 65_535, "0"),
-        Argument::OptionalText("top"),
-        Argument::OptionalNumber("a", 0, 65_535, "101"),
-        Argument::OptionalNumber("b", 0, 65_535, "102"),
-        Argument::OptionalNumber("tile", 1, 1_073_741_824, "4096"),
-        Argument::OptionalNumber("workers", 1, 64, "4"),
-        Argument::FileName("in"),
-        Argument::FileName("prefix"),
-        Argument::RepeatedNumber("layer", 0, 65_535),
-    ];
-    with_level(alloc, command, "batch", &arguments)
-}
-
-/// Adds the subcommand `edit`.
-fn with_edit<'a>(alloc: Global, command: Command<'a>) -> Result<Command<'a>, AllocError>
-    ensures { IfOk result (λ c. app_of c ≡ with_subcommand (app_of command.entry) edit_shape) }
-{
-    let arguments = [
-        Argument::RequiredNumber("layer", 0, 65_535),
-        Argument::RequiredNumber("rule", 1, 1_000_000),
-        Argument::RequiredNumber("overlap", 1, 1_000_000),
-        Argument::NumberIfGiven("corner", 1, 1_000_000),
-        Argument::OptionalNumber("datatype", 0, 65_535, "0"),
-        Argument::OptionalText("top"),
-        Argument::OptionalNumber("a", 0, 65_535, "101"),
-        Argument::OptionalNumber("b", 0, 65_535, "102"),
-        Argument::OptionalNumber("tile", 1, 1_073_741_824, "4096"),
-        Argument::FileName("in"),
-        Argument::FileName("edits"),
-        Argument::FileName("out"),
-        Argument::FileName("cert"),
-    ];
-    with_level(alloc, command, "edit", &arguments)
-}
+/// The subcommands, each with its arguments in order.
+static LEVELS: [Level<'static>; 5] = [
+    Level {
+        name: "split",
+        arguments: &[
+            Argument("layer", Required, Number(0, 65_535)),
+            Argument("rule", Required, Number(1, 1_000_000)),
+            Argument("overlap", Required, Number(1, 1_000_000)),
+            Argument("corner", IfAny, Number(1, 1_000_000)),
+            Argument("datatype", Default("0"), Number(0, 65_535)),
+            Argument("top", IfAny, Text),
+            Argument("a", Default("101"), Number(0, 65_535)),
+            Argument("b", Default("102"), Number(0, 65_535)),
+            Argument("mark-a", IfAny, Number(0, 65_535)),
+            Argument("mark-b", IfAny, Number(0, 65_535)),
+            Argument("tile", Default("4096"), Number(1, 1_073_741_824)),
+            Argument("workers", Default("4"), Number(1, 64)),
+            Argument("fewer", IfAny, Flag),
+            Argument("in", ByPlace, Text),
+            Argument("out", ByPlace, Text),
+            Argument("cert", ByPlace, Text),
+        ],
+    },
+    Level {
+        name: "check",
+        arguments: &[
+            Argument("layer", Required, Number(0, 65_535)),
+            Argument("rule", Required, Number(1, 1_000_000)),
+            Argument("overlap", Required, Number(1, 1_000_000)),
+            Argument("corner", IfAny, Number(1, 1_000_000)),
+            Argument("datatype", Default("0"), Number(0, 65_535)),
+            Argument("top", IfAny, Text),
+            Argument("a", Default("101"), Number(0, 65_535)),
+            Argument("b", Default("102"), Number(0, 65_535)),
+            Argument("mark-a", IfAny, Number(0, 65_535)),
+            Argument("mark-b", IfAny, Number(0, 65_535)),
+            Argument("in", ByPlace, Text),
+            Argument("out", ByPlace, Text),
+            Argument("cert", ByPlace, Text),
+        ],
+    },
+    Level {
+        name: "demo",
+        arguments: &[
+            Argument("seed", Required, Word),
+            Argument("rows", Required, Number(1, 1_000_000)),
+            Argument("tile", Default("4096"), Number(1, 1_073_741_824)),
+            Argument("workers", Default("4"), Number(1, 64)),
+        ],
+    },
+    Level {
+        name: "batch",
+        arguments: &[
+            Argument("rule", Required, Number(1, 1_000_000)),
+            Argument("overlap", Required, Number(1, 1_000_000)),
+            Argument("corner", IfAny, Number(1, 1_000_000)),
+            Argument("datatype", Default("0"), Number(0, 65_535)),
+            Argument("top", IfAny, Text),
+            Argument("a", Default("101"), Number(0, 65_535)),
+            Argument("b", Default("102"), Number(0, 65_535)),
+            Argument("tile", Default("4096"), Number(1, 1_073_741_824)),
+            Argument("workers", Default("4"), Number(1, 64)),
+            Argument("in", ByPlace, Text),
+            Argument("prefix", ByPlace, Text),
+            Argument("layer", ByPlace, Numbers(0, 65_535)),
+        ],
+    },
+    Level {
+        name: "edit",
+        arguments: &[
+            Argument("layer", Required, Number(0, 65_535)),
+            Argument("rule", Required, Number(1, 1_000_000)),
+            Argument("overlap", Required, Number(1, 1_000_000)),
+            Argument("corner", IfAny, Number(1, 1_000_000)),
+            Argument("datatype", Default("0"), Number(0, 65_535)),
+            Argument("top", IfAny, Text),
+            Argument("a", Default("101"), Number(0, 65_535)),
+            Argument("b", Default("102"), Number(0, 65_535)),
+            Argument("tile", Default("4096"), Number(1, 1_073_741_824)),
+            Argument("in", ByPlace, Text),
+            Argument("edits", ByPlace, Text),
+            Argument("out", ByPlace, Text),
+            Argument("cert", ByPlace, Text),
+        ],
+    },
+];
 
 /// The program's own command, before its subcommands.
 fn top_command<'a>(alloc: Global) -> Command<'a>
@@ -271,13 +222,30 @@ fn top_command<'a>(alloc: Global) -> Command<'a>
         .subcommand_required(true)
 }
 
+/// Adds the subcommand of a level.
+fn with_level<'a>(
+    alloc: Global,
+    command: Command<'a>,
+    level: Level<'a>,
+) -> Result<Command<'a>, AllocError>
+    ensures { IfOk result (λ c. app_of c ≡ with_subcommand (app_of command.entry) (shape_for level.entry)) }
+{
+    match level.command(alloc) {
+        Ok(shown) => command.subcommand(shown),
+        Err(error) => {
+            drop(command);
+            Err(error)
+        }
+    }
+}
+
 /// The whole command line.
 pub fn dpl_command<'a>(alloc: Global) -> Result<Command<'a>, AllocError>
     ensures { IfOk result (λ c. app_of c ≡ dpl_app) }
 {
-    let command = with_split(alloc, top_command(alloc))?;
-    let command = with_check(alloc, command)?;
-    let command = with_demo(alloc, command)?;
-    let command = with_batch(alloc, command)?;
-    with_edit(alloc, command)
+    let mut command = top_command(alloc);
+    for level in &LEVELS {
+        command = with_level(alloc, command, *level)?;
+    }
+    Ok(command)
 }

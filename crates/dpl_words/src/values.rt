@@ -1,6 +1,7 @@
 //! The values that a command line gives.
-ghost use Rattle.std.specs.Prelude.{◌≡◌, ◌==◌, Some, None, codes, count_by, IfOk, IfSome, IsErrOf, is_some, map, option_map, string_bytes, true};
+ghost use Rattle.std.specs.Prelude.{◌≡◌, ◌==◌, Some, None, codes, count_by, IfOk, IfSome, IsErrOf, is_some, map, not, option_map, string_bytes, true};
 ghost use Rattle.std.specs.List.{list_all};
+ghost use Rattle.std.specs.Str.{bytes_eq};
 ghost use Rattle.dpl_words.specs.declared.values.WordsFault.TheVariants.{NoMemory};
 ghost use Rattle.clap.specs.Walk.{first_of, many_of, one_of, rows_of, texts};
 ghost use Rattle.clap.specs.Simple.{subcommand_rows_of};
@@ -14,7 +15,7 @@ use clap::error::ErrorKind;
 use std::alloc::{AllocError, Global};
 
 /// What a command line of `split` says.
-#[derive(Debug, Drop)]
+#[derive(Drop)]
 pub struct SplitOptions<'a> {
     pub layer: u16,
     pub datatype: u16,
@@ -35,7 +36,7 @@ pub struct SplitOptions<'a> {
 }
 
 /// What a command line of `check` says.
-#[derive(Debug, Drop)]
+#[derive(Drop)]
 pub struct CheckOptions<'a> {
     pub layer: u16,
     pub datatype: u16,
@@ -53,7 +54,7 @@ pub struct CheckOptions<'a> {
 }
 
 /// What a command line of `demo` says.
-#[derive(Debug, Drop)]
+#[derive(Drop)]
 pub struct DemoOptions {
     pub seed: u64,
     pub rows: u32,
@@ -62,7 +63,7 @@ pub struct DemoOptions {
 }
 
 /// What a command line of `batch` says.
-#[derive(Debug, Drop)]
+#[derive(Drop)]
 pub struct BatchOptions<'a> {
     pub datatype: u16,
     pub rule: u32,
@@ -81,7 +82,7 @@ pub struct BatchOptions<'a> {
 }
 
 /// What a command line of `edit` says.
-#[derive(Debug, Drop)]
+#[derive(Drop)]
 pub struct EditOptions<'a> {
     pub layer: u16,
     pub datatype: u16,
@@ -103,7 +104,7 @@ pub struct EditOptions<'a> {
 const MOST_LAYERS: usize = 64;
 
 /// What a command line asks for.
-#[derive(Debug, Drop)]
+#[derive(Drop)]
 pub enum Request<'a> {
     Split(SplitOptions<'a>),
     Check(CheckOptions<'a>),
@@ -261,6 +262,7 @@ fn batch_options<'a>(
     requires there { AreThereForBatch (rows_of (found_of matches.now)) }
     ensures { IfOk result (λ o. batch_view o ≡ batch_values (rows_of (found_of matches.now))) }
 {
+    let layers = numbers_16(alloc, matches, "layer")?;
     Ok(BatchOptions {
         datatype: number_16(matches, "datatype"),
         rule: number_32(matches, "rule"),
@@ -273,7 +275,7 @@ fn batch_options<'a>(
         workers: number_32(matches, "workers"),
         input: required_text(matches, "in"),
         prefix: required_text(matches, "prefix"),
-        layers: numbers_16(alloc, matches, "layer")?,
+        layers,
     })
 }
 
@@ -509,9 +511,16 @@ fn are_beside(alloc: Global, input: &str, prefix: &str, layers: &[u16]) -> Resul
 fn is_beside(alloc: Global, input: &str, prefix: &str, layer: u16) -> Result<bool, AllocError>
     ensures { IfOk result (λ beside. beside ≡ specs_is_beside input.now prefix.now layer) }
 {
-    let masks = mask_name(alloc, prefix, layer)?;
-    let certificate = certificate_name(alloc, prefix, layer)?;
-    Ok(input != masks.as_str() && input != certificate.as_str())
+    let masks = is_other(input, mask_name(alloc, prefix, layer)?);
+    let certificate = is_other(input, certificate_name(alloc, prefix, layer)?);
+    Ok(masks && certificate)
+}
+
+/// Whether this isn't the name of IN.
+fn is_other(input: &str, name: String) -> bool
+    ensures { result ≡ not (bytes_eq input.now (string_bytes name)) }
+{
+    input != name.as_str()
 }
 
 /// The name of the file that `batch` writes a layer's masks to.

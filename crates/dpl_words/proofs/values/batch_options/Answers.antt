@@ -35,5 +35,5 @@ required_text-requires-2 c = c.requires.there.prefix
 pub numbers_16-requires : goal.numbers_16-requires
 numbers_16-requires c = c.requires.there.layers
 
-pub returns-in_err-numbers_16 : goal.returns-in_err-numbers_16
-returns-in_err-numbers_16 c = IfOk-from_err _ _ c.from_residual.ensures.0
+pub returns-in_err-layers : goal.returns-in_err-layers
+returns-in_err-layers c = IfOk-from_err _ _ c.from_residual.ensures.0
