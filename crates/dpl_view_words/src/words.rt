@@ -1,8 +1,12 @@
 //! The command line of `dplview`, read with `clap`.
 ghost use Rattle.std.specs.Prelude.{◌≤◌, IfOk, IfSome};
+ghost use Rattle.dpl_answer.specs.Flat.{AreWorkers, IsTile};
 ghost use Rattle.dpl_view.specs.Findings.{IsInRange};
 ghost use Rattle.dpl_view_words.specs.Requests.{IsSound};
 
+use Form::{File, Flag, Name, Number};
+use Given::{Default, Optional, Required};
+use clap::builder::ValueParser;
 use clap::error::ErrorKind;
 use clap::{Arg, ArgAction, ArgMatches, Command, Error, value_parser};
 use dpl_answer::Sharing;
@@ -11,7 +15,7 @@ use dpl_view::Order;
 use std::alloc::{AllocError, Global};
 
 /// What a command line asks for.
-#[derive(Debug, Drop)]
+#[derive(Drop)]
 pub enum Request<'a> {
     /// All odd cycles of a layer.
     Conflicts(SplitOptions<'a>),
@@ -22,7 +26,7 @@ pub enum Request<'a> {
 }
 
 /// What a command line of `layers` says.
-#[derive(Debug, Drop)]
+#[derive(Drop)]
 pub struct FileOptions<'a> {
     /// The name of the structure whose points are counted. Where none is named, it is the one that no reference names.
     pub top: Option<&'a str>,
@@ -33,7 +37,7 @@ pub struct FileOptions<'a> {
 }
 
 /// What a command line of `conflicts` or `stitches` says.
-#[derive(Debug, Drop)]
+#[derive(Drop)]
 pub struct SplitOptions<'a> {
     /// What is asked of the layout.
     pub order: Order<'a>,
@@ -45,121 +49,225 @@ pub struct SplitOptions<'a> {
     pub output: Option<&'a str>,
 }
 
-/// A whole number from the first to the second, by its name; its default, or it must be given.
-fn number<'a>(
-    alloc: Global,
-    id: &'a str,
-    high: u32,
-    low: u32,
-    default: Option<&'a str>,
-    help: &'a str,
-) -> Arg<'a> {
-    let parser = value_parser!(u32).range(i64::from(low)..=i64::from(high));
-    let arg = Arg::new(alloc, id)
-        .long(id)
-        .value_name("N")
-        .value_parser(parser)
-        .help(help);
-    match default {
-        Some(text) => arg.default_value(text),
-        None => arg.required(true),
+/// Whether an argument must be given.
+#[derive(Clone, Copy)]
+enum Given {
+    /// It must be.
+    Required,
+    /// It may be left out, and has this value then.
+    Default(&'static str),
+    /// It may be left out.
+    Optional,
+}
+
+impl Given {
+    /// The argument, given so.
+    fn of<'a>(self, arg: Arg<'a>) -> Arg<'a> {
+        match self {
+            Required => arg.required(true),
+            Default(text) => arg.default_value(text),
+            Optional => arg,
+        }
     }
 }
 
-/// A subcommand that splits a layer.
-fn split_command<'a>(
-    alloc: Global,
-    name: &'a str,
-    about: &'a str,
-) -> Result<Command<'a>, AllocError> {
-    let command = Command::new(alloc, name).about(about);
-    let command = command.arg(number(alloc, "layer", 65_535, 0, None, "The layer"))?;
-    let command = command.arg(number(
-        alloc,
-        "rule",
-        1_000_000,
-        1,
-        None,
-        "How far apart features are on one mask, in database units",
-    ))?;
-    let command = command.arg(number(
-        alloc,
-        "overlap",
-        1_000_000,
-        1,
-        None,
-        "How long a stitch is, in database units",
-    ))?;
-    let command = command.arg(number(
-        alloc,
-        "datatype",
-        65_535,
-        0,
-        Some("0"),
-        "The datatype of its shapes",
-    ))?;
-    let command = command.arg(number(
-        alloc,
-        "tile",
-        1_073_741_824,
-        1,
-        Some("4096"),
-        "The least side of a tile; it changes no answer",
-    ))?;
-    let command = command.arg(number(
-        alloc,
-        "workers",
-        64,
-        1,
-        Some("4"),
-        "How many threads share the tiles; it changes no answer",
-    ))?;
-    let command = file_arguments(alloc, command)?;
-    let output = Arg::new(alloc, "out")
-        .value_name("OUT")
-        .help("A marker database of KLayout's that is written");
-    command.arg(output)
+/// The form of an argument.
+#[derive(Clone, Copy)]
+enum Form {
+    /// An option with a whole number from the first to the second.
+    Number(u32, u32),
+    /// An option with a name.
+    Name,
+    /// An option without a value.
+    Flag,
+    /// A file, by its place, which the help calls so.
+    File(&'static str),
 }
 
-/// Adds the arguments of each subcommand.
-fn file_arguments<'a>(alloc: Global, command: Command<'a>) -> Result<Command<'a>, AllocError> {
-    let top = Arg::new(alloc, "top")
-        .long("top")
-        .value_name("NAME")
-        .help("The structure in which the layout begins");
-    let command = command.arg(top)?;
-    let json = Arg::new(alloc, "json")
-        .long("json")
-        .action(ArgAction::SetTrue)
-        .help("Say JSON");
-    let command = command.arg(json)?;
-    let input = Arg::new(alloc, "in")
-        .value_name("IN")
-        .required(true)
-        .help("A GDSII layout");
-    command.arg(input)
+impl Form {
+    /// The argument of this name, in this form.
+    fn of<'a>(self, arg: Arg<'a>, id: &'a str) -> Arg<'a> {
+        match self {
+            Number(low, high) => arg
+                .long(id)
+                .value_name("N")
+                .value_parser(number_parser(low, high)),
+            Name => arg.long(id).value_name("NAME"),
+            Flag => arg.long(id).action(ArgAction::SetTrue),
+            File(name) => arg.value_name(name),
+        }
+    }
+}
+
+/// What reads a whole number within a range.
+fn number_parser<'a>(low: u32, high: u32) -> ValueParser<'a> {
+    value_parser!(u32).range(i64::from(low)..=i64::from(high))
+}
+
+/// An argument of a subcommand.
+#[derive(Clone, Copy)]
+struct Argument {
+    id: &'static str,
+    given: Given,
+    form: Form,
+    /// Whether each subcommand takes it, and not only those that split a layer.
+    is_common: bool,
+    help: &'static str,
+}
+
+/// The arguments in order.
+static ARGUMENTS: [Argument; 10] = [
+    Argument {
+        id: "layer",
+        given: Required,
+        form: Number(0, 65_535),
+        is_common: false,
+        help: "The layer",
+    },
+    Argument {
+        id: "rule",
+        given: Required,
+        form: Number(1, 1_000_000),
+        is_common: false,
+        help: "How far apart features are on one mask, in database units",
+    },
+    Argument {
+        id: "overlap",
+        given: Required,
+        form: Number(1, 1_000_000),
+        is_common: false,
+        help: "How long a stitch is, in database units",
+    },
+    Argument {
+        id: "datatype",
+        given: Default("0"),
+        form: Number(0, 65_535),
+        is_common: false,
+        help: "The datatype of its shapes",
+    },
+    Argument {
+        id: "tile",
+        given: Default("4096"),
+        form: Number(1, 1_073_741_824),
+        is_common: false,
+        help: "The least side of a tile; it changes no answer",
+    },
+    Argument {
+        id: "workers",
+        given: Default("4"),
+        form: Number(1, 64),
+        is_common: false,
+        help: "How many threads share the tiles; it changes no answer",
+    },
+    Argument {
+        id: "top",
+        given: Optional,
+        form: Name,
+        is_common: true,
+        help: "The structure in which the layout begins",
+    },
+    Argument {
+        id: "json",
+        given: Optional,
+        form: Flag,
+        is_common: true,
+        help: "Say JSON",
+    },
+    Argument {
+        id: "in",
+        given: Required,
+        form: File("IN"),
+        is_common: true,
+        help: "A GDSII layout",
+    },
+    Argument {
+        id: "out",
+        given: Optional,
+        form: File("OUT"),
+        is_common: false,
+        help: "A marker database of KLayout's that is written",
+    },
+];
+
+impl Argument {
+    /// The argument as `clap` takes it.
+    fn arg<'a>(self, alloc: Global) -> Arg<'a> {
+        let arg = Arg::new(alloc, self.id).help(self.help);
+        self.form.of(self.given.of(arg), self.id)
+    }
+}
+
+/// A subcommand.
+#[derive(Clone, Copy)]
+struct Level {
+    name: &'static str,
+    about: &'static str,
+    /// Whether it splits a layer.
+    splits: bool,
+}
+
+/// The subcommands in order.
+static LEVELS: [Level; 3] = [
+    Level {
+        name: "conflicts",
+        about: "All odd cycles of conflicts of a layer, one for each component that has one",
+        splits: true,
+    },
+    Level {
+        name: "stitches",
+        about: "The stitches of a layer's split",
+        splits: true,
+    },
+    Level {
+        name: "layers",
+        about: "Structures, tops and layers of a layout, with how many elements they have",
+        splits: false,
+    },
+];
+
+impl Level {
+    /// The subcommand as `clap` takes it, with the arguments that it has.
+    fn command<'a>(self, alloc: Global) -> Result<Command<'a>, AllocError> {
+        let mut command = Command::new(alloc, self.name).about(self.about);
+        for argument in &ARGUMENTS {
+            if self.splits || argument.is_common {
+                command = command.arg(argument.arg(alloc))?;
+            }
+        }
+        Ok(command)
+    }
+}
+
+/// The program's own command, before its subcommands.
+fn top_command<'a>(alloc: Global, version: &'a str) -> Command<'a> {
+    Command::new(alloc, "dplview")
+        .version(version)
+        .about("Shows what a layout holds for double patterning")
+        .subcommand_required(true)
+}
+
+/// Adds the subcommand of a level.
+fn with_level<'a>(
+    alloc: Global,
+    command: Command<'a>,
+    level: Level,
+) -> Result<Command<'a>, AllocError> {
+    match level.command(alloc) {
+        Ok(shown) => command.subcommand(shown),
+        Err(error) => {
+            drop(command);
+            Err(error)
+        }
+    }
 }
 
 /// The whole command line.
 fn view_command<'a>(alloc: Global, version: &'a str) -> Result<Command<'a>, AllocError> {
-    let command = Command::new(alloc, "dplview")
-        .version(version)
-        .about("Shows what a layout holds for double patterning")
-        .subcommand_required(true);
-    let command = command.subcommand(split_command(
-        alloc,
-        "conflicts",
-        "All odd cycles of conflicts of a layer, one for each component that has one",
-    )?)?;
-    let command = command.subcommand(split_command(
-        alloc,
-        "stitches",
-        "The stitches of a layer's split",
-    )?)?;
-    let layers = Command::new(alloc, "layers").about(
-        "Structures, tops and layers of a layout, with how many elements they have",
-    );
-    command.subcommand(file_arguments(alloc, layers)?)
+    let mut command = top_command(alloc, version);
+    for level in &LEVELS {
+        command = with_level(alloc, command, *level)?;
+    }
+    Ok(command)
 }
 
 /// What the words of a command line ask for. The error has the text of the help or the version where those are asked for, and says what is wrong with the words where they ask for nothing.
@@ -171,11 +279,25 @@ pub fn read_words<'a>(
     ensures { IfOk result IsSound }
 {
     let mut command = view_command(alloc, version)?;
+    parsed(&mut command, words)
+}
+
+/// What the words ask for, by this command.
+fn parsed<'a>(command: &mut Command<'a>, words: &'a [&'a str]) -> Result<Request<'a>, Error>
+    ensures { IfOk result IsSound }
+{
     let matches = command.try_get_matches_from_mut(words)?;
     match asked(&matches) {
-        Some(options) => Ok(options),
-        None => Err(command.error(ErrorKind::MissingSubcommand, "no command")?),
+        Some(request) => Ok(request),
+        None => no_command(command),
     }
+}
+
+/// The error of words without a subcommand.
+fn no_command<'a>(command: &mut Command<'a>) -> Result<Request<'a>, Error>
+    ensures { IfOk result IsSound }
+{
+    Err(command.error(ErrorKind::MissingSubcommand, "no command")?)
 }
 
 /// What the matches ask for.
@@ -184,17 +306,20 @@ fn asked<'a>(matches: &ArgMatches<'a>) -> Option<Request<'a>>
 {
     let (name, inner) = matches.subcommand()?;
     match name {
-        "layers" => {
-            let input = inner.get_str("in")?;
-            Some(Request::Layers(FileOptions {
-                top: inner.get_str("top"),
-                json: inner.get_flag("json"),
-                input,
-            }))
-        }
+        "layers" => Some(Request::Layers(file_options(inner)?)),
         "stitches" => Some(Request::Stitches(split_options(inner)?)),
         _ => Some(Request::Conflicts(split_options(inner)?)),
     }
+}
+
+/// What the matches of `layers` say.
+fn file_options<'a>(matches: &ArgMatches<'a>) -> Option<FileOptions<'a>> {
+    let input = matches.get_str("in")?;
+    Some(FileOptions {
+        top: matches.get_str("top"),
+        json: matches.get_flag("json"),
+        input,
+    })
 }
 
 /// What the matches of `conflicts` or `stitches` say.
@@ -217,20 +342,34 @@ fn order_of<'a>(matches: &ArgMatches<'a>) -> Option<Order<'a>>
 {
     let rule = number_in(matches, "rule", 1, 1_000_000)?;
     let overlap = number_in(matches, "overlap", 1, 1_000_000)?;
-    let tile = number_in(matches, "tile", 1, 1_073_741_824)?;
-    let workers = number_in(matches, "workers", 1, 64)?;
-    let layer = number_in(matches, "layer", 0, 65_535)?;
-    let datatype = number_in(matches, "datatype", 0, 65_535)?;
+    let choice = choice_of(matches)?;
+    let sharing = sharing_of(matches)?;
     Some(Order {
-        choice: LayerChoice {
-            top: matches.get_str("top"),
-            layer: layer as u16,
-            datatype: datatype as u16,
-        },
+        choice,
         rule,
         overlap,
-        sharing: Sharing { tile, workers },
+        sharing,
     })
+}
+
+/// The layer that the matches of a subcommand name.
+fn choice_of<'a>(matches: &ArgMatches<'a>) -> Option<LayerChoice<'a>> {
+    let layer = number_in(matches, "layer", 0, 65_535)?;
+    let datatype = number_in(matches, "datatype", 0, 65_535)?;
+    Some(LayerChoice {
+        top: matches.get_str("top"),
+        layer: layer as u16,
+        datatype: datatype as u16,
+    })
+}
+
+/// How the work is shared, as the matches of a subcommand say.
+fn sharing_of(matches: &ArgMatches) -> Option<Sharing>
+    ensures { IfSome result (λ s. IsTile s.tile × AreWorkers s.workers) }
+{
+    let tile = number_in(matches, "tile", 1, 1_073_741_824)?;
+    let workers = number_in(matches, "workers", 1, 64)?;
+    Some(Sharing { tile, workers })
 }
 
 /// The number of an option, if it lies in its range.
