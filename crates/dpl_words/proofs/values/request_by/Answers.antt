@@ -1,6 +1,11 @@
-use Rattle.std.proofs.Common.{◌≡◌, true}
+use Rattle.std.proofs.Common.{◌≡◌, true, Some, ap, subst, sym}
 use Rattle.std.specs.Prelude.{codes}
 use Rattle.std.specs.Str.{bytes_eq}
+use Rattle.clap.specs.Matches.{found_of}
+use Rattle.clap.specs.Walk.{rows_of}
+use Rattle.dpl_words.specs.Meaning.{AsksDemo, DemoValues}
+use Rattle.dpl_words.specs.Ranges.{AreInRangeForDemo}
+use Rattle.dpl_words.proofs.Ranges.{demo_in_range}
 use Rattle.dpl_words.proofs.values.request_by.Goals as goal
 
 pub split_request-requires : goal.split_request-requires
@@ -37,6 +42,22 @@ returns-in-check-clause-ranges c = c.check_request.ensures.ranges
 pub returns-in-check-clause-apart : goal.returns-in-check-clause-apart
 returns-in-check-clause-apart c = c.check_request.ensures.apart
 
+pub demo_options-requires : goal.demo_options-requires
+demo_options-requires c =
+    let named : bytes_eq c.args.name.now (codes "demo") ≡ true = rw c.in-demo.is in
+    record { there = c.requires.there.demo named }
+
+pub returns-in-demo-clause-read : goal.returns-in-demo-clause-read
+returns-in-demo-clause-read c = rw c.in-demo.is (ap (λ (v : DemoValues). Some (AsksDemo v)) (sym c.demo_options.ensures))
+
+pub returns-in-demo-clause-ranges : goal.returns-in-demo-clause-ranges
+returns-in-demo-clause-ranges c =
+    let named : bytes_eq c.args.name.now (codes "demo") ≡ true = rw c.in-demo.is in
+    subst AreInRangeForDemo (sym c.demo_options.ensures) (demo_in_range (rows_of (found_of c.args.inner.now)) (c.requires.there.demo named))
+
+pub returns-in-demo-clause-apart : goal.returns-in-demo-clause-apart
+returns-in-demo-clause-apart c = tt
+
 pub batch_request-requires : goal.batch_request-requires
 batch_request-requires c =
     let named : bytes_eq c.args.name.now (codes "batch") ≡ true = rw c.in-batch.is in
@@ -70,3 +91,12 @@ returns-in-edit-clause-ranges c = c.edit_request.ensures.ranges
 
 pub returns-in-edit-clause-apart : goal.returns-in-edit-clause-apart
 returns-in-edit-clause-apart c = c.edit_request.ensures.apart
+
+pub returns-in_default-clause-read : goal.returns-in_default-clause-read
+returns-in_default-clause-read c = tt
+
+pub returns-in_default-clause-ranges : goal.returns-in_default-clause-ranges
+returns-in_default-clause-ranges c = tt
+
+pub returns-in_default-clause-apart : goal.returns-in_default-clause-apart
+returns-in_default-clause-apart c = tt
