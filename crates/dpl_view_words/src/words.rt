@@ -55,18 +55,25 @@ enum Given {
     /// It must be.
     Required,
     /// It may be left out, and has this value then.
-    Default(&'static str),
+    Default(&'static [&'static str; 1]),
     /// It may be left out.
     Optional,
 }
 
 impl Given {
-    /// The argument, given so.
-    fn of<'a>(self, arg: Arg<'a>) -> Arg<'a> {
+    /// Whether it must be.
+    fn is_required(self) -> bool {
         match self {
-            Required => arg.required(true),
-            Default(text) => arg.default_value(text),
-            Optional => arg,
+            Required => true,
+            Default(_) | Optional => false,
+        }
+    }
+
+    /// The values that it has where it is left out.
+    fn defaults(self) -> &'static [&'static str] {
+        match self {
+            Default(value) => value,
+            Required | Optional => &[],
         }
     }
 }
@@ -140,21 +147,21 @@ static ARGUMENTS: [Argument; 10] = [
     },
     Argument {
         id: "datatype",
-        given: Default("0"),
+        given: Default(&["0"]),
         form: Number(0, 65_535),
         is_common: false,
         help: "The datatype of its shapes",
     },
     Argument {
         id: "tile",
-        given: Default("4096"),
+        given: Default(&["4096"]),
         form: Number(1, 1_073_741_824),
         is_common: false,
         help: "The least side of a tile; it changes no answer",
     },
     Argument {
         id: "workers",
-        given: Default("4"),
+        given: Default(&["4"]),
         form: Number(1, 64),
         is_common: false,
         help: "How many threads share the tiles; it changes no answer",
@@ -192,8 +199,11 @@ static ARGUMENTS: [Argument; 10] = [
 impl Argument {
     /// The argument as `clap` takes it.
     fn arg<'a>(self, alloc: Global) -> Arg<'a> {
-        let arg = Arg::new(alloc, self.id).help(self.help);
-        self.form.of(self.given.of(arg), self.id)
+        let arg = Arg::new(alloc, self.id)
+            .required(self.given.is_required())
+            .default_values(self.given.defaults())
+            .help(self.help);
+        self.form.of(arg, self.id)
     }
 }
 
