@@ -1,13 +1,12 @@
-//! A table of edits, each answer compared with that of a session opened on the edited layer.
-ghost use Rattle.std.specs.Prelude.{◌≡◌, ◌<◌, IsTrue, IfSome};
-ghost use Rattle.dpl_cert.specs.Grammar.{IsCoordinate};
+//! Edits one after the other, each answer compared with that of a session opened on the edited layer.
+ghost use Rattle.std.specs.Prelude.{◌≡◌, ◌<◌, IfSome};
 ghost use Rattle.dpl_spec_edits.specs.Text.{IsEdit};
 
-use dpl_base::{FARTHEST, Id, Rect, Spacing};
+use dpl_base::{Id, Spacing};
+use dpl_edits::{Edit, read_edits};
 use dpl_orient::Colours;
 use dpl_session::{Answer, Session, Steps};
 use dpl_slabs::{Parts, Slabs};
-use dpl_spec_edits::Edit;
 use std::alloc::{AllocError, Global};
 use std::marker::Brand;
 use std::sync::ledger::{Blank, Ledger};
@@ -18,45 +17,26 @@ const SPACING: Spacing = Spacing {
     corner: 30,
 };
 
-/// Edits, one after the other: whether squares are added or taken away, the rectangle's left, lower, right and upper edge, and whether the conflicts then have an odd cycle.
-const EDITS: [(bool, i32, i32, i32, i32, bool); 8] = [
-    (true, 0, 0, 10, 10, false),
-    (true, 20, 0, 30, 10, false),
-    (true, 10, 20, 20, 30, true),
-    (true, 2, 2, 5, 5, true),
-    (true, 5000, 5000, 9000, 5010, true),
-    (false, 10, 20, 20, 30, false),
-    (true, 5000, 5020, 9000, 5030, false),
-    (false, 0, 0, 9000, 9000, false),
+/// Edits, one after the other, and whether the conflicts then have an odd cycle.
+static EDITS: [(&str, bool); 8] = [
+    ("add 0 0 10 10\n", false),
+    ("add 20 0 30 10\n", false),
+    ("add 10 20 20 30\n", true),
+    ("add 2 2 5 5\n", true),
+    ("add 5000 5000 9000 5010\n", true),
+    ("remove 10 20 20 30\n", false),
+    ("add 5000 5020 9000 5030\n", false),
+    ("remove 0 0 9000 9000\n", false),
 ];
 
-/// Whether a number is a coordinate of a layer.
-fn is_coordinate(z: i32) -> bool
-    ensures { IsTrue result → IsCoordinate z }
-{
-    if (z as i64) <= -FARTHEST {
-        return false;
-    }
-    (z as i64) <= FARTHEST
-}
-
-/// The edit of a row, where its rectangle is one of a layer.
-fn edit_of(adds: bool, rect: Rect) -> Option<Edit>
+/// The first edit that a text lists.
+fn edit_of(alloc: Global, text: &str) -> Option<Edit>
     ensures { IfSome result IsEdit }
 {
-    if rect.x0 >= rect.x1 || rect.y0 >= rect.y1 {
-        return None;
+    match read_edits(alloc, text.as_bytes()) {
+        Ok(edits) => edits.first().copied(),
+        Err(_) => None,
     }
-    if !is_coordinate(rect.x0) || !is_coordinate(rect.y0) {
-        return None;
-    }
-    if !is_coordinate(rect.x1) || !is_coordinate(rect.y1) {
-        return None;
-    }
-    if adds {
-        return Some(Edit::Add(rect));
-    }
-    Some(Edit::Remove(rect))
 }
 
 /// Whether the pieces have the same squares.
@@ -103,31 +83,70 @@ fn is_told(answer: &Answer, other: &Answer, odd: bool) -> bool {
     }
 }
 
-/// Whether each answer of the table is that of a session opened on the edited layer.
-fn keeps_answers<L: Ledger>(alloc: Global, blank: Blank) -> Result<bool, AllocError>
+/// A session of a layer.
+fn opened<L: Ledger>(
+    alloc: Global,
+    layer: &Slabs,
+    steps: &mut Steps<L>,
+) -> Result<Session, AllocError> {
+    Session::open(alloc, layer, SPACING, 4, 64, steps)
+}
+
+/// Whether the answer of a session is that of one opened on its layer, with an odd cycle exactly where it is said.
+fn is_kept<L: Ledger>(
+    alloc: Global,
+    session: &Session,
+    odd: bool,
+    steps: &mut Steps<L>,
+) -> Result<bool, AllocError> {
+    let other = opened(alloc, session.layer(), steps)?;
+    Ok(is_told(&session.answer(), &other.answer(), odd))
+}
+
+/// Makes the edit of a text, and tells whether the answer is kept.
+fn keeps_answer<L: Ledger>(
+    alloc: Global,
+    session: &mut Session,
+    text: &str,
+    odd: bool,
+    steps: &mut Steps<L>,
+) -> Result<bool, AllocError> {
+    let Some(edit) = edit_of(alloc, text) else {
+        return Ok(false);
+    };
+    session.edit(alloc, edit, steps)?;
+    is_kept(alloc, session, odd, steps)
+}
+
+/// The first edit of the table whose answer a session doesn't keep.
+fn first_wrong<L: Ledger>(
+    alloc: Global,
+    session: &mut Session,
+    steps: &mut Steps<L>,
+) -> Result<Option<usize>, AllocError> {
+    for k in 0..EDITS.len() {
+        let (text, odd) = EDITS[k];
+        if !keeps_answer(alloc, session, text, odd, steps)? {
+            return Ok(Some(k));
+        }
+    }
+    Ok(None)
+}
+
+/// The first edit of the table whose answer a session of no squares doesn't keep. Steps are counted in a ledger of so many parts.
+fn first_wrong_in<L: Ledger>(alloc: Global, blank: Blank) -> Result<Option<usize>, AllocError>
     requires name { blank.name ≡ L.name }
     requires parts { blank.parts ≡ L.parts }
     requires some { 0 < blank.parts }
 {
     let mut steps = Steps::<L>::new(blank);
-    let empty = Slabs::empty(alloc);
-    let mut session = Session::open(alloc, &empty, SPACING, 4, 64, &mut steps)?;
-    for (adds, x0, y0, x1, y1, odd) in EDITS {
-        let Some(edit) = edit_of(adds, Rect { x0, y0, x1, y1 }) else {
-            return Ok(false);
-        };
-        session.edit(alloc, edit, &mut steps)?;
-        let opened = Session::open(alloc, session.layer(), SPACING, 4, 64, &mut steps)?;
-        if !is_told(&session.answer(), &opened.answer(), odd) {
-            return Ok(false);
-        }
-    }
-    Ok(true)
+    let mut session = opened(alloc, &Slabs::empty(alloc), &mut steps)?;
+    first_wrong(alloc, &mut session, &mut steps)
 }
 
 #[test]
 fn answers_are_those_of_the_edited_layer(rt: HostRuntime) -> Result<(), Fail> {
-    let kept = keeps_answers::<Brand>(rt.alloc(), Blank::new(1))?;
-    assert!(rt; kept);
+    let wrong = first_wrong_in::<Brand>(rt.alloc(), Blank::new(1))?;
+    assert_eq!(rt; wrong, None);
     Ok(())
 }
