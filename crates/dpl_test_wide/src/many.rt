@@ -6,7 +6,7 @@ use dpl_base::Rect;
 use dpl_slabs::Slabs;
 use dpl_test_cuts::{Corners, rects_of};
 use std::alloc::{AllocError, Global};
-use std::test::Fail;
+use std::thread::Threads;
 
 /// How many treads there are: those of 280 stairs.
 const TREADS: u16 = 8400;
@@ -33,24 +33,72 @@ fn treads(alloc: Global, turn: bool) -> Result<Vec<Rect>, AllocError>
     rects_of(alloc, &corners)
 }
 
-#[test]
-fn workers_share_strips(rt: HostRuntime) -> Result<(), Fail> {
-    // Upright, each stair is a strip. Turned, each is a block, and a strip of the columns.
-    let alloc = rt.alloc();
-    for turn in [false, true] {
-        let whole = Slabs::of_rects(alloc, treads(alloc, turn)?)?;
-        assert_eq!(rt; whole.rects().len(), 16_520);
-        let columns = Slabs::of_canonical(whole.columns(alloc)?);
-        assert_eq!(rt; columns.rects().len(), 16_520);
-        for workers in [2, 3, 64] {
-            let rects = treads(alloc, turn)?;
-            let slabs = Slabs::of_shapes_by(&rt, alloc, rects, Vec::new(alloc), workers)?;
-            assert!(rt; slabs.equal(&whole));
-            let by = Slabs::of_canonical(whole.columns_by(&rt, alloc, workers)?);
-            assert!(rt; by.equal(&columns));
-        }
+/// How many slabs the treads have, upright or turned, by rows or by columns.
+const SLABS: usize = 16_520;
+
+/// Whether so many workers make this set of rectangles.
+fn make_set<R: Threads + Sync>(
+    rt: &R,
+    alloc: Global,
+    rects: Vec<Rect>,
+    workers: u32,
+    want: &Slabs,
+) -> Result<bool, AllocError>
+    requires { AreRectsWithin farthest rects.items }
+{
+    let set = Slabs::of_shapes_by(rt, alloc, rects, Vec::new(alloc), workers)?;
+    Ok(set.equal(want))
+}
+
+/// Whether so many workers make the slabs of a set's columns that one makes, and as many as the treads have.
+fn make_columns<R: Threads + Sync>(
+    rt: &R,
+    alloc: Global,
+    set: &Slabs,
+    workers: u32,
+) -> Result<bool, AllocError> {
+    let alone = set.columns(alloc)?;
+    let together = set.columns_by(rt, alloc, workers)?;
+    Ok(alone.len() == SLABS && together.as_slice() == alone.as_slice())
+}
+
+/// The set of all treads.
+fn set_of_treads(alloc: Global, turn: bool) -> Result<Slabs, AllocError> {
+    let rects = treads(alloc, turn)?;
+    Slabs::of_rects(alloc, rects)
+}
+
+/// Whether so many workers make the slabs of the treads and of their columns that one makes.
+fn make_treads<R: Threads + Sync>(
+    rt: &R,
+    alloc: Global,
+    turn: bool,
+    workers: u32,
+) -> Result<bool, AllocError> {
+    let set = set_of_treads(alloc, turn)?;
+    let rects = treads(alloc, turn)?;
+    if set.rects().len() != SLABS || !make_set(rt, alloc, rects, workers, &set)? {
+        return Ok(false);
     }
-    Ok(())
+    make_columns(rt, alloc, &set, workers)
+}
+
+/// Whether the stairs are turned, and how many workers share them. Upright, each stair is a strip. Turned, each is a block, and a strip of the columns.
+static SHARED: [(bool, u32); 6] = [
+    (false, 2),
+    (false, 3),
+    (false, 64),
+    (true, 2),
+    (true, 3),
+    (true, 64),
+];
+
+#[test]
+fn workers_share_strips(rt: HostRuntime) {
+    for &(turn, workers) in &SHARED {
+        let are_same = make_treads(&rt, rt.alloc(), turn, workers) == Ok(true);
+        assert!(rt; are_same, "by {workers} workers");
+    }
 }
 
 /// How many rectangles are on a terrace.
@@ -74,14 +122,28 @@ fn terraces(alloc: Global) -> Result<Vec<Rect>, AllocError>
     rects_of(alloc, &corners)
 }
 
+/// The set of the terraces.
+fn set_of_terraces(alloc: Global) -> Result<Slabs, AllocError> {
+    let rects = terraces(alloc)?;
+    Slabs::of_rects(alloc, rects)
+}
+
+/// Whether so many workers make the set of the terraces that one makes.
+fn make_terraces<R: Threads + Sync>(
+    rt: &R,
+    alloc: Global,
+    workers: u32,
+) -> Result<bool, AllocError> {
+    let set = set_of_terraces(alloc)?;
+    let rects = terraces(alloc)?;
+    make_set(rt, alloc, rects, workers, &set)
+}
+
 #[test]
-fn workers_make_the_blocks_of_one(rt: HostRuntime) -> Result<(), Fail> {
+fn workers_make_the_blocks_of_one(rt: HostRuntime) {
     // Each terrace is a block, and all rows meet.
-    let alloc = rt.alloc();
-    let whole = Slabs::of_rects(alloc, terraces(alloc)?)?;
-    for workers in [3, 4] {
-        let slabs = Slabs::of_shapes_by(&rt, alloc, terraces(alloc)?, Vec::new(alloc), workers)?;
-        assert!(rt; slabs.equal(&whole));
+    for &workers in &[3, 4] {
+        let are_same = make_terraces(&rt, rt.alloc(), workers) == Ok(true);
+        assert!(rt; are_same, "by {workers} workers");
     }
-    Ok(())
 }

@@ -1,12 +1,11 @@
 //! Layers with their zones, and the pieces that these leave, found by workers.
-use dpl_base::{Id, Pt};
+use dpl_base::{Id, Pt, Zone};
 use dpl_feature::features;
 use dpl_piece::{Pieces, bare_pieces_by};
 use dpl_slabs::Slabs;
-use dpl_test_cuts::{BARS, Corners, RING, SPACING, are, cut, set_of};
+use dpl_test_cuts::{BARS, Corners, RING, SPACING, cut, set_of};
 use dpl_zone::zones;
 use std::alloc::{AllocError, Global};
-use std::test::Fail;
 use std::thread::Threads;
 
 /// A square with a hole whose upper edge has a step, so that only what is below the hole is a stretch.
@@ -88,19 +87,29 @@ fn has_keys(cut: &Pieces, want: &[(i64, i64)]) -> bool {
     true
 }
 
+/// The corners of a zone.
+fn corners_of(zone: &Zone) -> Corners {
+    let r = &zone.rect;
+    (r.x0, r.y0, r.x1, r.y1)
+}
+
 /// Whether the zones have these corners, one after the other.
 fn has_zones(cut: &Pieces, corners: &[Corners]) -> bool {
     let zones = cut.zones();
-    for (zone, corners) in zones.iter().zip(corners) {
-        if !are(&[zone.rect], &[*corners]) {
+    if zones.len() != corners.len() {
+        return false;
+    }
+    for k in 0..zones.len() {
+        if corners_of(&zones[k]) != corners[k] {
             return false;
         }
     }
-    zones.len() == corners.len()
+    true
 }
 
-/// A layer, its zones, and the keys, the features and the sides of its pieces.
+/// A layer by what is tried with it, its zones, and the keys, the features and the sides of its pieces.
 struct Layer {
+    what: &'static str,
     rects: &'static [Corners],
     zones: &'static [Corners],
     keys: &'static [(i64, i64)],
@@ -108,8 +117,9 @@ struct Layer {
     sides: &'static [(Id, Id)],
 }
 
-const LAYERS: [Layer; 7] = [
+static LAYERS: [Layer; 7] = [
     Layer {
+        what: "a bar",
         rects: &BARS,
         zones: &[(74, 0, 84, 20)],
         keys: &[(0, 0), (84, 0), (0, 40), (108, 40)],
@@ -117,6 +127,7 @@ const LAYERS: [Layer; 7] = [
         sides: &[(0, 1)],
     },
     Layer {
+        what: "a square with a hole",
         rects: &RING,
         zones: &[
             (45, 0, 55, 40),
@@ -128,8 +139,8 @@ const LAYERS: [Layer; 7] = [
         owner: &[0, 0, 0, 0],
         sides: &[(0, 1), (0, 2), (1, 3), (2, 3)],
     },
-    // two zones share a piece
     Layer {
+        what: "two zones share a piece",
         rects: &THREE_OVER,
         zones: &[(74, 0, 84, 20), (182, 0, 192, 20)],
         keys: &[(0, 0), (84, 0), (192, 0), (0, 40), (108, 40), (216, 40)],
@@ -137,14 +148,15 @@ const LAYERS: [Layer; 7] = [
         sides: &[(0, 1), (1, 2)],
     },
     Layer {
+        what: "an upright bar",
         rects: &UPRIGHT,
         zones: &[(0, 74, 20, 84)],
         keys: &[(0, 0), (40, 0), (0, 84), (40, 108)],
         owner: &[0, 1, 0, 2],
         sides: &[(0, 2)],
     },
-    // a bar with more than eight zones
     Layer {
+        what: "a bar with more than eight zones",
         rects: &TEN_OVER,
         zones: &[
             (74, 0, 84, 20),
@@ -192,16 +204,16 @@ const LAYERS: [Layer; 7] = [
             (8, 9),
         ],
     },
-    // both sides of a zone are one piece
     Layer {
+        what: "both sides of a zone are one piece",
         rects: &STEPPED_RING,
         zones: &[(45, 0, 55, 40)],
         keys: &[(0, 0)],
         owner: &[0],
         sides: &[(0, 0)],
     },
-    // three features are cut
     Layer {
+        what: "three features are cut",
         rects: &THREE_BROKEN,
         zones: &[
             (74, 0, 84, 20),
@@ -242,20 +254,32 @@ const LAYERS: [Layer; 7] = [
 ];
 
 /// How many workers cut each layer.
-const WORKERS: [u32; 5] = [1, 2, 4, 64, 1000];
+static WORKERS: [u32; 5] = [1, 2, 4, 64, 1000];
+
+/// Whether so many workers cut a layer into its pieces, at its zones.
+fn is_cut<R: Threads + Sync>(
+    rt: &R,
+    alloc: Global,
+    layer: &Layer,
+    workers: u32,
+) -> Result<bool, AllocError> {
+    let cut = cut_by(rt, alloc, layer.rects, workers)?;
+    Ok(
+        has_keys(&cut, layer.keys)
+            && cut.owner() == layer.owner
+            && cut.sides() == layer.sides
+            && has_zones(&cut, layer.zones),
+    )
+}
 
 #[test]
-fn layers_are_cut(rt: HostRuntime) -> Result<(), Fail> {
+fn layers_are_cut(rt: HostRuntime) {
     for layer in &LAYERS {
-        for workers in WORKERS {
-            let cut = cut_by(&rt, rt.alloc(), layer.rects, workers)?;
-            assert!(rt; has_keys(&cut, layer.keys), "by {workers} workers");
-            assert!(rt; cut.owner() == layer.owner, "by {workers} workers");
-            assert!(rt; cut.sides() == layer.sides, "by {workers} workers");
-            assert!(rt; has_zones(&cut, layer.zones), "by {workers} workers");
+        for &workers in &WORKERS {
+            let is_right = is_cut(&rt, rt.alloc(), layer, workers) == Ok(true);
+            assert!(rt; is_right, "{}, by {workers} workers", layer.what);
         }
     }
-    Ok(())
 }
 
 /// The bars so many times, one above the other.
@@ -263,21 +287,29 @@ fn many_bars(alloc: Global, count: u8) -> Result<Vec<Corners>, AllocError> {
     let mut rects = Vec::new(alloc);
     for k in 0..count {
         let up = 200 * k as i32;
-        for (x0, y0, x1, y1) in BARS {
+        for &(x0, y0, x1, y1) in &BARS {
             rects.push((x0, y0.saturating_add(up), x1, y1.saturating_add(up)))?;
         }
     }
     Ok(rects)
 }
 
+/// Whether so many workers note the sides that one notes, of nine zones.
+fn note_the_same<R: Threads + Sync>(
+    rt: &R,
+    alloc: Global,
+    workers: u32,
+) -> Result<bool, AllocError> {
+    let rects = many_bars(alloc, 9)?;
+    let alone = cut(alloc, &rects)?;
+    let together = cut_by(rt, alloc, &rects, workers)?;
+    Ok(alone.zones().len() == 9 && together.sides() == alone.sides())
+}
+
 #[test]
-fn workers_note_the_same_sides(rt: HostRuntime) -> Result<(), Fail> {
-    let rects = many_bars(rt.alloc(), 9)?;
-    let alone = cut(rt.alloc(), &rects)?;
-    assert_eq!(rt; alone.zones().len(), 9);
-    for workers in WORKERS {
-        let cut = cut_by(&rt, rt.alloc(), &rects, workers)?;
-        assert!(rt; cut.sides() == alone.sides(), "by {workers} workers");
+fn workers_note_the_same_sides(rt: HostRuntime) {
+    for &workers in &WORKERS {
+        let is_same = note_the_same(&rt, rt.alloc(), workers) == Ok(true);
+        assert!(rt; is_same, "by {workers} workers");
     }
-    Ok(())
 }
