@@ -3,7 +3,7 @@ ghost use Rattle.std.specs.Prelude.{◌≤◌, ◌<ℤ◌, IfOk, IsTrue, unsigne
 ghost use Rattle.dpl_spec_split.specs.Loops.{farthest};
 ghost use Rattle.dpl_cut.specs.Cutting.{HasPointKeys};
 
-use dpl_answer::{Decomposed, MarkSets, Sharing, answer_of, conflicts_of};
+use dpl_answer::{Clash, Decomposed, MarkSets, Painted, Sharing, answer_of, conflicts_of};
 use dpl_base::{FARTHEST, Listed, Pt, Rect, Spacing};
 use dpl_cert::{Gain, NearLine, PieceLine, PlaceLine};
 use dpl_cut::{BareLayerCut, cut_of};
@@ -104,19 +104,46 @@ fn answer_to<R: Threads + Wait + Sync>(
     )
 }
 
-/// The answer of a layer, some of whose squares are fixed to mask A or to mask B, plainly or with fewer stitches.
+/// What the answer of a layer is to be.
+#[derive(Drop)]
+enum Want<'a> {
+    /// Masks with these letters of the pieces, `A` or `B` for each.
+    Letters(&'a str),
+    /// Such masks, and the gains of these components, one of whose zones has equal letters on its sides.
+    Gains(&'a str, &'a [u64]),
+    /// A cycle with these places, and these lines between them.
+    Cycle(&'a [PlaceLine], &'a [NearLine]),
+    /// Some cycle.
+    SomeCycle,
+}
+
+/// A layer, squares that are fixed to mask A and to mask B, and what the answer is to be. Where that has gains, fewer stitches are asked for.
+#[derive(Drop)]
+struct Case<'a> {
+    layer: &'a [Corners],
+    a: &'a [Corners],
+    b: &'a [Corners],
+    want: Want<'a>,
+}
+
+/// The answer of a layer, some of whose squares are fixed to mask A or to mask B.
 fn answer_with<R: Threads + Wait + Sync>(
     rt: &R,
     alloc: Global,
-    layer: &[Corners],
-    a: &[Corners],
-    b: &[Corners],
-    fewer: bool,
+    case: &Case<'_>,
 ) -> Result<Decomposed, AllocError> {
-    let layer = set_of(alloc, layer)?;
-    let marks = marks_of(alloc, a, b)?;
+    let layer = set_of(alloc, case.layer)?;
+    let marks = marks_of(alloc, case.a, case.b)?;
     let cut = cut_beside(alloc, layer, &marks)?;
-    answer_to(rt, alloc, cut, &marks, fewer)
+    answer_to(rt, alloc, cut, &marks, asks_for_fewer(&case.want))
+}
+
+/// Whether fewer stitches are asked for.
+fn asks_for_fewer(want: &Want<'_>) -> bool {
+    match want {
+        Want::Gains(_, _) => true,
+        _ => false,
+    }
 }
 
 /// Whether pieces have these letters, `A` or `B` for each.
@@ -133,22 +160,6 @@ fn are_letters(lines: &[PieceLine], letters: &[u8]) -> bool {
     true
 }
 
-/// Whether the answer is masks with these letters of the pieces.
-fn has_letters(answer: &Decomposed, letters: &str) -> bool {
-    match answer {
-        Decomposed::Masks(painted) => are_letters(painted.pieces.items(), letters.as_bytes()),
-        Decomposed::Cycle(_) => false,
-    }
-}
-
-/// Whether the answer is masks with the gains of these components, one of whose zones has equal letters on its sides.
-fn has_gains(answer: &Decomposed, pieces: &[u64]) -> bool {
-    match answer {
-        Decomposed::Masks(painted) => are_gains(&painted.gains, pieces),
-        Decomposed::Cycle(_) => false,
-    }
-}
-
 /// Whether gains were asked for, and are those of these components, one of whose zones has equal letters on its sides.
 fn are_gains(gains: &Option<Listed<Gain>>, pieces: &[u64]) -> bool {
     let Some(lines) = gains else {
@@ -159,168 +170,205 @@ fn are_gains(gains: &Option<Listed<Gain>>, pieces: &[u64]) -> bool {
         return false;
     }
     for k in 0..lines.len() {
-        if lines[k]
-            != (Gain {
-                piece: pieces[k],
-                d: 0,
-                s: 1,
-            })
-        {
+        let gain = Gain {
+            piece: pieces[k],
+            d: 0,
+            s: 1,
+        };
+        if lines[k] != gain {
             return false;
         }
     }
     true
 }
 
-/// Whether the answer is a cycle with these places, and these lines between them.
-fn has_cycle(answer: &Decomposed, places: &[PlaceLine], near: &[NearLine]) -> bool {
-    match answer {
-        Decomposed::Masks(_) => false,
-        Decomposed::Cycle(clash) => clash.cycle.items() == places && clash.near.items() == near,
+/// Whether masks are what the answer is to be.
+fn are_wanted(painted: &Painted, want: &Want<'_>) -> bool {
+    let lines = painted.pieces.items();
+    match want {
+        Want::Letters(letters) => are_letters(lines, letters.as_bytes()),
+        Want::Gains(letters, pieces) => {
+            are_letters(lines, letters.as_bytes()) && are_gains(&painted.gains, pieces)
+        }
+        _ => false,
     }
 }
 
-/// Squares that are fixed to mask A, those that are fixed to mask B, and the letters of two bars that are far apart.
-static LETTERS: [(&[Corners], &[Corners], &str); 5] = [
-    (&[], &[], "AA"),
-    (&[], &[(0, 50, 1, 51)], "AB"),
-    (&[], &[(0, 0, 1, 1)], "BA"),
-    (&[(0, 0, 1, 1)], &[(99, 69, 100, 70)], "AB"),
-    (&[], &[(0, 0, 100, 70)], "BB"),
-];
+/// Whether a cycle is what the answer is to be.
+fn is_wanted(clash: &Clash, want: &Want<'_>) -> bool {
+    match want {
+        Want::Cycle(places, near) => {
+            clash.cycle.items() == *places && clash.near.items() == *near
+        }
+        Want::SomeCycle => true,
+        _ => false,
+    }
+}
 
-/// Whether the two bars with these marks have these letters.
-fn are_lettered<R: Threads + Wait + Sync>(
+/// Whether an answer is what it is to be.
+fn is_met(answer: &Decomposed, want: &Want<'_>) -> bool {
+    match answer {
+        Decomposed::Masks(painted) => are_wanted(painted, want),
+        Decomposed::Cycle(clash) => is_wanted(clash, want),
+    }
+}
+
+/// Whether the answer of a layer is what it is to be.
+fn is_right<R: Threads + Wait + Sync>(
     rt: &R,
     alloc: Global,
-    a: &[Corners],
-    b: &[Corners],
-    letters: &str,
+    case: &Case<'_>,
 ) -> Result<bool, AllocError> {
-    let answer = answer_with(rt, alloc, &APART, a, b, false)?;
-    Ok(has_letters(&answer, letters))
+    let answer = answer_with(rt, alloc, case)?;
+    Ok(is_met(&answer, &case.want))
 }
+
+/// The first case whose answer is not what it is to be.
+fn first_wrong<R: Threads + Wait + Sync>(
+    rt: &R,
+    alloc: Global,
+    cases: &[Case<'_>],
+) -> Option<usize> {
+    for k in 0..cases.len() {
+        if is_right(rt, alloc, &cases[k]) != Ok(true) {
+            return Some(k);
+        }
+    }
+    None
+}
+
+/// Marks on two bars that are as far apart as the rule.
+static LETTERS: [Case<'static>; 5] = [
+    Case {
+        layer: &APART,
+        a: &[],
+        b: &[],
+        want: Want::Letters("AA"),
+    },
+    Case {
+        layer: &APART,
+        a: &[],
+        b: &[(0, 50, 1, 51)],
+        want: Want::Letters("AB"),
+    },
+    Case {
+        layer: &APART,
+        a: &[],
+        b: &[(0, 0, 1, 1)],
+        want: Want::Letters("BA"),
+    },
+    Case {
+        layer: &APART,
+        a: &[(0, 0, 1, 1)],
+        b: &[(99, 69, 100, 70)],
+        want: Want::Letters("AB"),
+    },
+    Case {
+        layer: &APART,
+        a: &[],
+        b: &[(0, 0, 100, 70)],
+        want: Want::Letters("BB"),
+    },
+];
 
 #[test]
 fn marks_fix_letters(rt: HostRuntime) {
-    for k in 0..LETTERS.len() {
-        let (a, b, letters) = LETTERS[k];
-        let is_right = are_lettered(&rt, rt.alloc(), a, b, letters) == Ok(true);
-        assert!(rt; is_right, "row {k}");
-    }
+    assert_eq!(rt; first_wrong(&rt, rt.alloc(), &LETTERS), None);
 }
 
-/// Squares of a beam that are fixed to mask A, those that are fixed to mask B, the letters of its pieces, and the components whose gains are left.
-static GAINS: [(&[Corners], &[Corners], &str, &[u64]); 3] = [
-    (&[], &[], "AABB", &[0, 1]),
-    (&[(0, 40, 1, 41)], &[], "BBAA", &[1]),
-    (&[(0, 40, 1, 41)], &[(199, 59, 200, 60)], "BAAB", &[]),
+/// Marks on a beam.
+static GAINS: [Case<'static>; 3] = [
+    Case {
+        layer: &BEAM,
+        a: &[],
+        b: &[],
+        want: Want::Gains("AABB", &[0, 1]),
+    },
+    Case {
+        layer: &BEAM,
+        a: &[(0, 40, 1, 41)],
+        b: &[],
+        want: Want::Gains("BBAA", &[1]),
+    },
+    Case {
+        layer: &BEAM,
+        a: &[(0, 40, 1, 41)],
+        b: &[(199, 59, 200, 60)],
+        want: Want::Gains("BAAB", &[]),
+    },
 ];
-
-/// Whether the beam with these marks has these letters, and these components have gains.
-fn is_gained<R: Threads + Wait + Sync>(
-    rt: &R,
-    alloc: Global,
-    a: &[Corners],
-    b: &[Corners],
-    letters: &str,
-    pieces: &[u64],
-) -> Result<bool, AllocError> {
-    let answer = answer_with(rt, alloc, &BEAM, a, b, true)?;
-    Ok(has_letters(&answer, letters) && has_gains(&answer, pieces))
-}
 
 #[test]
 fn marked_components_have_no_gains(rt: HostRuntime) {
-    for k in 0..GAINS.len() {
-        let (a, b, letters, pieces) = GAINS[k];
-        let is_right = is_gained(&rt, rt.alloc(), a, b, letters, pieces) == Ok(true);
-        assert!(rt; is_right, "row {k}");
-    }
+    assert_eq!(rt; first_wrong(&rt, rt.alloc(), &GAINS), None);
 }
 
-/// Whether a layer has a cycle with these places, and these lines between them.
-fn is_cyclic<R: Threads + Wait + Sync>(
-    rt: &R,
-    alloc: Global,
-    layer: &[Corners],
-    a: &[Corners],
-    b: &[Corners],
-    places: &[PlaceLine],
-    near: &[NearLine],
-) -> Result<bool, AllocError> {
-    let answer = answer_with(rt, alloc, layer, a, b, false)?;
-    Ok(has_cycle(&answer, places, near))
-}
-
-/// The cycle from the anchor of mask B through two close bars, both of which have a square that is fixed to mask A.
-static THROUGH_BOTH: [PlaceLine; 3] = [
-    PlaceLine::Anchor { b: true },
-    PlaceLine::Piece {
-        piece: 0,
-        key: Pt { x: 0, y: 0 },
-    },
-    PlaceLine::Piece {
-        piece: 1,
-        key: Pt { x: 0, y: 49 },
-    },
-];
-
-/// What joins each of its places and the next.
-static NEAR_BOTH: [NearLine; 3] = [
-    NearLine::Mark {
-        at: Pt { x: 0, y: 0 },
-    },
-    NearLine::Pair {
-        from: Pt { x: 0, y: 19 },
-        to: Pt { x: 0, y: 49 },
-    },
-    NearLine::Mark {
-        at: Pt { x: 0, y: 49 },
-    },
-];
+/// Two close bars, both of which have a square that is fixed to mask A: the cycle goes through the anchor of mask B.
+static THROUGH_BOTH: [Case<'static>; 1] = [Case {
+    layer: &CLOSE,
+    a: &[(0, 0, 1, 1), (0, 49, 1, 50)],
+    b: &[],
+    want: Want::Cycle(
+        &[
+            PlaceLine::Anchor { b: true },
+            PlaceLine::Piece {
+                piece: 0,
+                key: Pt { x: 0, y: 0 },
+            },
+            PlaceLine::Piece {
+                piece: 1,
+                key: Pt { x: 0, y: 49 },
+            },
+        ],
+        &[
+            NearLine::Mark {
+                at: Pt { x: 0, y: 0 },
+            },
+            NearLine::Pair {
+                from: Pt { x: 0, y: 19 },
+                to: Pt { x: 0, y: 49 },
+            },
+            NearLine::Mark {
+                at: Pt { x: 0, y: 49 },
+            },
+        ],
+    ),
+}];
 
 #[test]
 fn near_pieces_of_one_mark_are_a_cycle_through_an_anchor(rt: HostRuntime) {
-    let marks = [(0, 0, 1, 1), (0, 49, 1, 50)];
-    let is_right = is_cyclic(
-        &rt,
-        rt.alloc(),
-        &CLOSE,
-        &marks,
-        &[],
-        &THROUGH_BOTH,
-        &NEAR_BOTH,
-    );
-    assert!(rt; is_right == Ok(true));
+    assert_eq!(rt; first_wrong(&rt, rt.alloc(), &THROUGH_BOTH), None);
 }
 
-/// The cycle of both anchors and a bar that has a square of both marks.
-static THROUGH_ONE: [PlaceLine; 3] = [
-    PlaceLine::Anchor { b: false },
-    PlaceLine::Anchor { b: true },
-    PlaceLine::Piece {
-        piece: 0,
-        key: Pt { x: 0, y: 0 },
-    },
-];
-
-/// What joins each of its places and the next.
-static NEAR_ONE: [NearLine; 3] = [
-    NearLine::Anchors,
-    NearLine::Mark {
-        at: Pt { x: 4, y: 5 },
-    },
-    NearLine::Mark {
-        at: Pt { x: 4, y: 5 },
-    },
-];
+/// A bar that has a square of both marks: the cycle goes through both anchors.
+static THROUGH_ONE: [Case<'static>; 1] = [Case {
+    layer: &ONE,
+    a: &[(4, 5, 6, 7)],
+    b: &[(4, 5, 6, 7)],
+    want: Want::Cycle(
+        &[
+            PlaceLine::Anchor { b: false },
+            PlaceLine::Anchor { b: true },
+            PlaceLine::Piece {
+                piece: 0,
+                key: Pt { x: 0, y: 0 },
+            },
+        ],
+        &[
+            NearLine::Anchors,
+            NearLine::Mark {
+                at: Pt { x: 4, y: 5 },
+            },
+            NearLine::Mark {
+                at: Pt { x: 4, y: 5 },
+            },
+        ],
+    ),
+}];
 
 #[test]
 fn a_square_of_both_marks_is_a_cycle(rt: HostRuntime) {
-    let both = [(4, 5, 6, 7)];
-    let is_right = is_cyclic(&rt, rt.alloc(), &ONE, &both, &both, &THROUGH_ONE, &NEAR_ONE);
-    assert!(rt; is_right == Ok(true));
+    assert_eq!(rt; first_wrong(&rt, rt.alloc(), &THROUGH_ONE), None);
 }
 
 /// Adds a row of a comb with its teeth.
@@ -343,32 +391,27 @@ fn comb(alloc: Global) -> Result<Vec<Corners>, AllocError> {
     Ok(rects)
 }
 
-/// The answer of the comb, some of whose squares are fixed to a mask.
-fn answer_of_comb<R: Threads + Wait + Sync>(
-    rt: &R,
-    alloc: Global,
-    a: &[Corners],
-    b: &[Corners],
-) -> Result<Decomposed, AllocError> {
+/// Whether the comb with a square of mask B is one piece on that mask, and has a cycle with the square of both masks.
+fn is_dense_right<R: Threads + Wait + Sync>(rt: &R, alloc: Global) -> Result<bool, AllocError> {
     let rects = comb(alloc)?;
-    answer_with(rt, alloc, &rects, a, b, false)
-}
-
-/// Whether the comb with a square of mask B is one piece on that mask.
-fn is_marked<R: Threads + Wait + Sync>(rt: &R, alloc: Global) -> Result<bool, AllocError> {
-    let answer = answer_of_comb(rt, alloc, &[], &[(3, 0, 4, 1)])?;
-    Ok(has_letters(&answer, "B"))
-}
-
-/// Whether the comb with a square of both masks has a cycle.
-fn is_clash<R: Threads + Wait + Sync>(rt: &R, alloc: Global) -> Result<bool, AllocError> {
-    let square = [(3, 0, 4, 1)];
-    let answer = answer_of_comb(rt, alloc, &square, &square)?;
-    Ok(matches!(answer, Decomposed::Cycle(_)))
+    let cases = [
+        Case {
+            layer: &rects,
+            a: &[],
+            b: &[(3, 0, 4, 1)],
+            want: Want::Letters("B"),
+        },
+        Case {
+            layer: &rects,
+            a: &[(3, 0, 4, 1)],
+            b: &[(3, 0, 4, 1)],
+            want: Want::SomeCycle,
+        },
+    ];
+    Ok(first_wrong(rt, alloc, &cases).is_none())
 }
 
 #[test]
 fn marks_of_a_dense_layer(rt: HostRuntime) {
-    assert!(rt; is_marked(&rt, rt.alloc()) == Ok(true));
-    assert!(rt; is_clash(&rt, rt.alloc()) == Ok(true));
+    assert!(rt; is_dense_right(&rt, rt.alloc()) == Ok(true));
 }
