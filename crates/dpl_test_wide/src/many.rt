@@ -139,10 +139,12 @@ fn make_terraces<R: Threads + Sync>(
     make_set(rt, alloc, rects, workers, &set)
 }
 
+/// How many workers make the terraces, each of which is a block. All rows meet.
+static WORKERS: [u32; 2] = [3, 4];
+
 #[test]
 fn workers_make_the_blocks_of_one(rt: HostRuntime) {
-    // Each terrace is a block, and all rows meet.
-    for &workers in &[3, 4] {
+    for &workers in &WORKERS {
         let are_same = make_terraces(&rt, rt.alloc(), workers) == Ok(true);
         assert!(rt; are_same, "by {workers} workers");
     }

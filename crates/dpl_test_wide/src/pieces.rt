@@ -3,7 +3,7 @@ use dpl_base::{Id, Pt, Zone};
 use dpl_feature::features;
 use dpl_piece::{Pieces, bare_pieces_by};
 use dpl_slabs::Slabs;
-use dpl_test_cuts::{BARS, Corners, RING, SPACING, cut, set_of};
+use dpl_test_cuts::{BARS, Corners, RING, SPACING, set_of};
 use dpl_zone::zones;
 use std::alloc::{AllocError, Global};
 use std::thread::Threads;
@@ -272,44 +272,68 @@ fn is_cut<R: Threads + Sync>(
     )
 }
 
+/// Whether each number of workers cuts a layer into its pieces.
+fn is_cut_by_all<R: Threads + Sync>(
+    rt: &R,
+    alloc: Global,
+    layer: &Layer,
+) -> Result<bool, AllocError> {
+    for &workers in &WORKERS {
+        if !is_cut(rt, alloc, layer, workers)? {
+            return Ok(false);
+        }
+    }
+    Ok(true)
+}
+
 #[test]
 fn layers_are_cut(rt: HostRuntime) {
     for layer in &LAYERS {
-        for &workers in &WORKERS {
-            let is_right = is_cut(&rt, rt.alloc(), layer, workers) == Ok(true);
-            assert!(rt; is_right, "{}, by {workers} workers", layer.what);
-        }
+        let is_right = is_cut_by_all(&rt, rt.alloc(), layer) == Ok(true);
+        assert!(rt; is_right, "{}", layer.what);
     }
 }
 
-/// The bars so many times, one above the other.
-fn many_bars(alloc: Global, count: u8) -> Result<Vec<Corners>, AllocError> {
+/// How many times the bars stand one above the other.
+const TIMES: u8 = 9;
+
+/// The bars so many times.
+fn many_bars(alloc: Global) -> Result<Vec<Corners>, AllocError> {
     let mut rects = Vec::new(alloc);
-    for k in 0..count {
+    for k in 0..TIMES {
         let up = 200 * k as i32;
-        for &(x0, y0, x1, y1) in &BARS {
-            rects.push((x0, y0.saturating_add(up), x1, y1.saturating_add(up)))?;
-        }
+        rects.extend_from_slice(&[
+            (0, up, 158, up + 20),
+            (0, up + 40, 50, up + 60),
+            (108, up + 40, 158, up + 60),
+        ])?;
     }
     Ok(rects)
 }
 
-/// Whether so many workers note the sides that one notes, of nine zones.
-fn note_the_same<R: Threads + Sync>(
-    rt: &R,
-    alloc: Global,
-    workers: u32,
-) -> Result<bool, AllocError> {
-    let rects = many_bars(alloc, 9)?;
-    let alone = cut(alloc, &rects)?;
-    let together = cut_by(rt, alloc, &rects, workers)?;
-    Ok(alone.zones().len() == 9 && together.sides() == alone.sides())
+/// Whether the sides are those of the zones in these bars, each of which has the first two of four pieces on its sides.
+fn are_of_bars(sides: &[(Id, Id)]) -> bool {
+    let mut piece: Id = 0;
+    for &(left, right) in sides {
+        if left != piece || right != piece.wrapping_add(1) {
+            return false;
+        }
+        piece = piece.wrapping_add(4);
+    }
+    sides.len() == TIMES as usize
+}
+
+/// Whether so many workers note the sides of the zones in these bars.
+fn note_sides<R: Threads + Sync>(rt: &R, alloc: Global, workers: u32) -> Result<bool, AllocError> {
+    let rects = many_bars(alloc)?;
+    let cut = cut_by(rt, alloc, &rects, workers)?;
+    Ok(are_of_bars(cut.sides()))
 }
 
 #[test]
 fn workers_note_the_same_sides(rt: HostRuntime) {
     for &workers in &WORKERS {
-        let is_same = note_the_same(&rt, rt.alloc(), workers) == Ok(true);
-        assert!(rt; is_same, "by {workers} workers");
+        let are_noted = note_sides(&rt, rt.alloc(), workers) == Ok(true);
+        assert!(rt; are_noted, "by {workers} workers");
     }
 }

@@ -173,7 +173,8 @@ const ZONES: usize = 24_598;
 /// A ladder, which is one feature.
 fn ladder(alloc: Global) -> Result<Vec<Corners>, AllocError> {
     let top = 100 * RUNGS as i32;
-    let mut rects = vec![in alloc; (0, 0, 20, top), (158, 0, 178, top)]?;
+    let mut rects = Vec::new(alloc);
+    rects.extend_from_slice(&[(0, 0, 20, top), (158, 0, 178, top)])?;
     for k in 0..RUNGS {
         let y = 100 * k as i32;
         rects.push((20, y + 40, 158, y + 60))?;
@@ -193,9 +194,12 @@ fn find_in_ladder<R: Threads + Sync>(
     Ok(alone.len() == ZONES && find(rt, alloc, &parts, workers, &alone)?)
 }
 
+/// How many workers find them.
+static WORKERS: [u32; 2] = [2, 4];
+
 #[test]
 fn workers_find_the_zones_of_one_feature(rt: HostRuntime) {
-    for &workers in &[2, 4] {
+    for &workers in &WORKERS {
         let are_same = find_in_ladder(&rt, rt.alloc(), workers) == Ok(true);
         assert!(rt; are_same, "by {workers} workers");
     }
