@@ -1,9 +1,10 @@
 //! What a file holds: lines and JSON.
+use crate::said::Said::{self, Begins, Ends, Has, Is};
+use crate::said::are_so;
 use dpl_show::{content_json, content_lines};
-use dpl_test_sample::{Part, Rectangle, layout};
-use dpl_view::{Look, look_into};
-use std::alloc::Global;
-use std::process::Abort;
+use dpl_test_sample::{Part, Rectangle, finish, library, put_parts};
+use dpl_view::{Contents, Look, look_into};
+use std::alloc::{AllocError, Global};
 use std::test::Fail;
 
 const LIMIT: usize = 268_435_456;
@@ -11,7 +12,7 @@ const LIMIT: usize = 268_435_456;
 const BAR: Rectangle = [0, 0, 20, 100];
 
 /// A structure with elements of each kind.
-const SUB: [Part<'static>; 31] = [
+static SUB: [Part<'static>; 31] = [
     Part::Begin(b"SUB\0"),
     Part::Bar(1, BAR),
     // a path
@@ -51,7 +52,7 @@ const SUB: [Part<'static>; 31] = [
 ];
 
 /// An array of two columns and three rows of it, and a bar.
-const TOP: [Part<'static>; 8] = [
+static TOP: [Part<'static>; 8] = [
     Part::Begin(b"TOP\0"),
     Part::Record(11, 0, &[]),
     Part::Record(18, 6, b"SUB\0"),
@@ -63,10 +64,10 @@ const TOP: [Part<'static>; 8] = [
 ];
 
 /// A second structure that no reference names.
-const OTHER: [Part<'static>; 3] = [Part::Begin(b"O T\0"), Part::Bar(7, BAR), Part::End];
+static OTHER: [Part<'static>; 3] = [Part::Begin(b"O T\0"), Part::Bar(7, BAR), Part::End];
 
 /// A reference to a structure that isn't there.
-const LOST: [Part<'static>; 6] = [
+static LOST: [Part<'static>; 6] = [
     Part::Begin(b"TOP\0"),
     Part::Record(10, 0, &[]),
     Part::Record(18, 6, b"GONE"),
@@ -75,73 +76,130 @@ const LOST: [Part<'static>; 6] = [
     Part::End,
 ];
 
-/// What is said of a file, as lines and as JSON.
-fn told(
-    rt: &impl Abort,
-    alloc: Global,
-    top: Option<&str>,
-    lists: &[&[Part<'_>]],
-) -> Result<(String, String), Fail> {
-    let bytes = layout(alloc, lists)?;
-    assert!(rt; bytes.len() <= LIMIT);
-    match look_into(alloc, top, bytes.as_slice())? {
-        Look::Held(contents) => Ok((
-            content_lines(alloc, &contents)?,
-            content_json(alloc, &contents)?,
-        )),
-        Look::Refused { name, at } => Ok((format!(in alloc; "{name} {at}")?, String::new(alloc))),
+/// The structures that files are of.
+#[derive(Clone, Copy)]
+enum Structure {
+    Sub,
+    Top,
+    Other,
+    Lost,
+}
+
+/// The parts of a structure.
+fn parts_of(structure: Structure) -> &'static [Part<'static>] {
+    match structure {
+        Structure::Sub => &SUB,
+        Structure::Top => &TOP,
+        Structure::Other => &OTHER,
+        Structure::Lost => &LOST,
     }
 }
 
-#[test]
-fn layers_are_told(rt: HostRuntime) -> Result<(), Fail> {
-    let (lines, json) = told(&rt, rt.alloc(), None, &[&SUB, &TOP])?;
-    assert_eq!(rt;
-        lines.as_str(),
-        "units 0.001 0.000000001\nstructures 2\ntop TOP\nlayer 1 datatype 0 boundaries 2 paths 0 boxes 1 texts 0 nodes 1 points 90\nlayer 1 datatype 65535 boundaries 0 paths 0 boxes 0 texts 1 nodes 0 points 0\nlayer 2 datatype 5 boundaries 0 paths 2 boxes 0 texts 0 nodes 0 points 12\nlayer 7 datatype 0 boundaries 1 paths 0 boxes 0 texts 0 nodes 0 points 5\n"
-    );
-    assert!(rt;
-        json.as_str().starts_with(
-            "{\"layers\":[{\"boundaries\":2,\"boxes\":1,\"datatype\":0,\"layer\":1,\"nodes\":1,\"paths\":0,\"points\":90,\"texts\":0},"
-        )
-    );
-    assert!(rt;
-        json.as_str().contains("\"structures\":2,\"tops\":[\"TOP\"],\"units\":{\"metres\":")
-    );
+/// The file of structures.
+fn file_of(alloc: Global, structures: &[Structure]) -> Result<Vec<u8>, AllocError> {
+    let mut out = library(alloc)?;
+    for structure in structures {
+        put_parts(&mut out, parts_of(*structure))?;
+    }
+    finish(&mut out)?;
+    Ok(out)
+}
+
+/// The structures of a file, the name of the top, if one is named, and what is said of the file, as lines and as JSON.
+struct Case {
+    structures: &'static [Structure],
+    top: Option<&'static str>,
+    lines: &'static [Said<'static>],
+    json: &'static [Said<'static>],
+}
+
+/// Whether this is said of the contents of a file.
+fn are_told(alloc: Global, contents: &Contents, case: &Case) -> Result<bool, AllocError> {
+    let lines = content_lines(alloc, contents)?;
+    let json = content_json(alloc, contents)?;
+    Ok(are_so(lines.as_str(), case.lines) && are_so(json.as_str(), case.json))
+}
+
+/// Whether this is said of a file; of one that is refused, the fault is looked at.
+fn holds(alloc: Global, case: &Case) -> Result<bool, AllocError> {
+    let bytes = file_of(alloc, case.structures)?;
+    if bytes.len() <= LIMIT {
+        match look_into(alloc, case.top, bytes.as_slice())? {
+            Look::Held(contents) => are_told(alloc, &contents, case),
+            Look::Refused { name, at } => {
+                let fault = format!(in alloc; "{name} {at}")?;
+                Ok(are_so(fault.as_str(), case.lines))
+            }
+        }
+    } else {
+        Ok(false)
+    }
+}
+
+/// Fails at the first case that doesn't hold, with its number from 0.
+fn all_hold(alloc: Global, cases: &[Case]) -> Result<(), Fail> {
+    for (number, case) in cases.iter().enumerate() {
+        if !holds(alloc, case)? {
+            return Err(Fail::new(format_args!("case {number}")));
+        }
+    }
     Ok(())
 }
 
+static TOLD: [Case; 1] = [Case {
+    structures: &[Structure::Sub, Structure::Top],
+    top: None,
+    lines: &[Is(
+        "units 0.001 0.000000001\nstructures 2\ntop TOP\nlayer 1 datatype 0 boundaries 2 paths 0 boxes 1 texts 0 nodes 1 points 90\nlayer 1 datatype 65535 boundaries 0 paths 0 boxes 0 texts 1 nodes 0 points 0\nlayer 2 datatype 5 boundaries 0 paths 2 boxes 0 texts 0 nodes 0 points 12\nlayer 7 datatype 0 boundaries 1 paths 0 boxes 0 texts 0 nodes 0 points 5\n",
+    )],
+    json: &[
+        Begins(
+            "{\"layers\":[{\"boundaries\":2,\"boxes\":1,\"datatype\":0,\"layer\":1,\"nodes\":1,\"paths\":0,\"points\":90,\"texts\":0},",
+        ),
+        Has("\"structures\":2,\"tops\":[\"TOP\"],\"units\":{\"metres\":"),
+    ],
+}];
+
+#[test]
+fn layers_are_told(rt: HostRuntime) -> Result<(), Fail> {
+    all_hold(rt.alloc(), &TOLD)
+}
+
+/// Two tops, of which none is named or one; a top with a reference to a structure that isn't there; and a structure that is there twice.
+static TOPS: [Case; 4] = [
+    Case {
+        structures: &[Structure::Other, Structure::Sub, Structure::Top],
+        top: None,
+        lines: &[
+            Has("\ntop O?T\ntop TOP\n"),
+            Ends(" nodes 0 points -\npoints no ManyTops 2\n"),
+        ],
+        json: &[Has("\"unplaced\":{\"at\":2,\"refused\":\"ManyTops\"}")],
+    },
+    Case {
+        structures: &[Structure::Other, Structure::Sub, Structure::Top],
+        top: Some("SUB"),
+        lines: &[
+            Has("layer 1 datatype 0 boundaries 2 paths 0 boxes 1 texts 0 nodes 1 points 15\n"),
+            Ends("layer 7 datatype 0 boundaries 2 paths 0 boxes 0 texts 0 nodes 0 points 0\n"),
+        ],
+        json: &[],
+    },
+    Case {
+        structures: &[Structure::Lost],
+        top: None,
+        lines: &[Ends("structures 1\ntop TOP\npoints no MissingStructure 98\n")],
+        json: &[],
+    },
+    Case {
+        structures: &[Structure::Top, Structure::Sub, Structure::Top],
+        top: None,
+        lines: &[Begins("DuplicateStructure ")],
+        json: &[],
+    },
+];
+
 #[test]
 fn points_are_told_where_there_is_one_top(rt: HostRuntime) -> Result<(), Fail> {
-    let (lines, json) = told(&rt, rt.alloc(), None, &[&OTHER, &SUB, &TOP])?;
-    assert!(rt; lines.as_str().contains("\ntop O?T\ntop TOP\n"));
-    assert!(rt;
-        lines
-            .as_str()
-            .ends_with(" nodes 0 points -\npoints no ManyTops 2\n")
-    );
-    assert!(rt;
-        json.as_str()
-            .contains("\"unplaced\":{\"at\":2,\"refused\":\"ManyTops\"}")
-    );
-    let (lines, _) = told(&rt, rt.alloc(), Some("SUB"), &[&OTHER, &SUB, &TOP])?;
-    assert!(rt;
-        lines.as_str().contains(
-            "layer 1 datatype 0 boundaries 2 paths 0 boxes 1 texts 0 nodes 1 points 15\n"
-        )
-    );
-    assert!(rt;
-        lines.as_str().ends_with(
-            "layer 7 datatype 0 boundaries 2 paths 0 boxes 0 texts 0 nodes 0 points 0\n"
-        )
-    );
-    let (lines, _) = told(&rt, rt.alloc(), None, &[&LOST])?;
-    assert!(rt;
-        lines
-            .as_str()
-            .ends_with("structures 1\ntop TOP\npoints no MissingStructure 98\n")
-    );
-    let (lines, _) = told(&rt, rt.alloc(), None, &[&TOP, &SUB, &TOP])?;
-    assert!(rt; lines.as_str().starts_with("DuplicateStructure "));
-    Ok(())
+    all_hold(rt.alloc(), &TOPS)
 }

@@ -4,4 +4,6 @@
 #[cfg(test)]
 mod layers;
 #[cfg(test)]
+mod said;
+#[cfg(test)]
 mod splits;

@@ -1,6 +1,8 @@
 //! Odd cycles and stitches: lines, JSON and markers.
 ghost use Rattle.dpl_view.specs.Findings.{IsInRange};
 
+use crate::said::Said::{self, Ends, Has, Is};
+use crate::said::are_so;
 use dpl_answer::{Clash, Sharing};
 use dpl_base::{Listed, Pt};
 use dpl_cert::{Head, NearLine, PlaceLine};
@@ -12,14 +14,13 @@ use dpl_show::{
 use dpl_test_sample::{Rectangle, bars};
 use dpl_view::{Cycles, Finding, Order, Seams, Split, Tangles, find, find_stitches};
 use std::alloc::{AllocError, Global};
-use std::process::Abort;
 use std::sync::Wait;
 use std::test::Fail;
 use std::thread::Threads;
 
 const LIMIT: usize = 268_435_456;
 
-const APART: [Rectangle; 6] = [
+static APART: [Rectangle; 6] = [
     [0, 0, 1, 1],
     [20, 0, 21, 1],
     [10, 20, 11, 21],
@@ -36,9 +37,9 @@ const APART_ITEMS: &str = " <items>
 </report-database>
 ";
 
-const BAR: [Rectangle; 1] = [[0, 0, 400, 20]];
+static BAR: [Rectangle; 1] = [[0, 0, 400, 20]];
 
-const WIRES: [Rectangle; 7] = [
+static WIRES: [Rectangle; 7] = [
     [0, 0, 400, 20],
     [0, 40, 50, 60],
     [0, 40, 20, 200],
@@ -81,49 +82,68 @@ fn order() -> Order<'static>
     }
 }
 
-/// What is said of the odd cycles of rectangles, as lines or as JSON, and the markers.
-fn cycles<R: Threads + Wait + Abort + Sync>(
+/// What is said of a layout, as lines and as JSON, and its markers.
+struct Shown {
+    lines: &'static [Said<'static>],
+    json: &'static [Said<'static>],
+    markers: &'static [Said<'static>],
+}
+
+/// Whether these lines, this JSON and these markers are so.
+fn are_shown(shown: &Shown, lines: &str, json: &str, markers: &[u8]) -> bool {
+    let Ok(markers) = str::from_utf8(markers) else {
+        return false;
+    };
+    are_so(lines, shown.lines) && are_so(json, shown.json) && are_so(markers, shown.markers)
+}
+
+/// Whether odd cycles are shown so.
+fn are_cycles(alloc: Global, found: &Cycles, shown: &Shown) -> Result<bool, AllocError> {
+    let lines = conflict_lines(alloc, &found.tangles)?;
+    let json = conflict_json(alloc, &found.tangles)?;
+    let markers = cycle_markers(alloc, found)?;
+    Ok(are_shown(shown, lines.as_str(), json.as_str(), markers.as_slice()))
+}
+
+/// Whether the odd cycles of rectangles are shown so.
+fn have_cycles<R: Threads + Wait + Sync>(
     rt: &R,
     alloc: Global,
     rectangles: &[Rectangle],
-) -> Result<(String, String, String), Fail> {
+    shown: &Shown,
+) -> Result<bool, AllocError> {
     let bytes = bars(alloc, rectangles)?;
-    assert!(rt; bytes.len() <= LIMIT);
-    match find(rt, alloc, &order(), bytes, &OpenGate)? {
-        Finding::Cycles(found) => Ok((
-            conflict_lines(alloc, &found.tangles)?,
-            conflict_json(alloc, &found.tangles)?,
-            String::from_utf8(cycle_markers(alloc, &found)?)?,
-        )),
-        Finding::Refused { .. } => Ok((String::new(alloc), String::new(alloc), String::new(alloc))),
+    if bytes.len() <= LIMIT {
+        match find(rt, alloc, &order(), bytes, &OpenGate)? {
+            Finding::Cycles(found) => are_cycles(alloc, &found, shown),
+            Finding::Refused { .. } => Ok(false),
+        }
+    } else {
+        Ok(false)
     }
 }
 
+static TWO_CYCLES: Shown = Shown {
+    lines: &[Ends("\nnear 1010 20 1000 0\nconflicts cycles 2 pieces 6 edges 6\n")],
+    json: &[Is(
+        "{\"cycles\":[{\"box\":[0,0,21,21],\"near\":[[[0,0],[20,0]],[[20,0],[10,20]],[[10,20],[0,0]]],\"pieces\":[{\"piece\":0,\"x\":0,\"y\":0},{\"piece\":1,\"x\":20,\"y\":0},{\"piece\":4,\"x\":10,\"y\":20}]},{\"box\":[1000,0,1021,21],\"near\":[[[1000,0],[1020,0]],[[1020,0],[1010,20]],[[1010,20],[1000,0]]],\"pieces\":[{\"piece\":2,\"x\":1000,\"y\":0},{\"piece\":3,\"x\":1020,\"y\":0},{\"piece\":5,\"x\":1010,\"y\":20}]}],\"edges\":6,\"pieces\":6}\n",
+    )],
+    markers: &[
+        Has("<description>Odd cycles of conflicts</description>"),
+        Ends(APART_ITEMS),
+    ],
+};
+
+static NO_CYCLES: Shown = Shown {
+    lines: &[Is("conflicts cycles 0 pieces 0 edges 0\n")],
+    json: &[Is("{\"cycles\":[],\"edges\":0,\"pieces\":0}\n")],
+    markers: &[Ends(" <items>\n </items>\n</report-database>\n")],
+};
+
 #[test]
-fn conflicts_are_listed(rt: HostRuntime) -> Result<(), Fail> {
-    let (lines, json, markers) = cycles(&rt, rt.alloc(), &APART)?;
-    assert!(rt;
-        lines.as_str().ends_with("\nnear 1010 20 1000 0\nconflicts cycles 2 pieces 6 edges 6\n")
-    );
-    assert_eq!(rt;
-        json.as_str(),
-        "{\"cycles\":[{\"box\":[0,0,21,21],\"near\":[[[0,0],[20,0]],[[20,0],[10,20]],[[10,20],[0,0]]],\"pieces\":[{\"piece\":0,\"x\":0,\"y\":0},{\"piece\":1,\"x\":20,\"y\":0},{\"piece\":4,\"x\":10,\"y\":20}]},{\"box\":[1000,0,1021,21],\"near\":[[[1000,0],[1020,0]],[[1020,0],[1010,20]],[[1010,20],[1000,0]]],\"pieces\":[{\"piece\":2,\"x\":1000,\"y\":0},{\"piece\":3,\"x\":1020,\"y\":0},{\"piece\":5,\"x\":1010,\"y\":20}]}],\"edges\":6,\"pieces\":6}\n"
-    );
-    assert!(rt;
-        markers
-            .as_str()
-            .contains("<description>Odd cycles of conflicts</description>")
-    );
-    assert!(rt; markers.as_str().ends_with(APART_ITEMS));
-    let (lines, json, markers) = cycles(&rt, rt.alloc(), &BAR)?;
-    assert_eq!(rt; lines.as_str(), "conflicts cycles 0 pieces 0 edges 0\n");
-    assert_eq!(rt; json.as_str(), "{\"cycles\":[],\"edges\":0,\"pieces\":0}\n");
-    assert!(rt;
-        markers
-            .as_str()
-            .ends_with(" <items>\n </items>\n</report-database>\n")
-    );
-    Ok(())
+fn conflicts_are_listed(rt: HostRuntime) {
+    assert!(rt; have_cycles(&rt, rt.alloc(), &APART, &TWO_CYCLES) == Ok(true));
+    assert!(rt; have_cycles(&rt, rt.alloc(), &BAR, &NO_CYCLES) == Ok(true));
 }
 
 /// The layout with a shape of two slabs: its rows are 20 squares wide, and from row 2 on 21.
@@ -144,119 +164,142 @@ fn of_many_slabs(alloc: Global) -> Result<Vec<Rectangle>, AllocError> {
     Ok(rectangles)
 }
 
+static BESIDE_SHOWN: Shown = Shown {
+    lines: &[Is(BESIDE_LINES)],
+    json: &[],
+    markers: &[],
+};
+
 #[test]
 fn near_squares_are_found_pair_by_pair_and_by_a_tree(rt: HostRuntime) -> Result<(), Fail> {
     let few = of_few_slabs(rt.alloc())?;
-    let (lines, _, _) = cycles(&rt, rt.alloc(), &few)?;
-    assert_eq!(rt; lines.as_str(), BESIDE_LINES);
+    assert!(rt; have_cycles(&rt, rt.alloc(), few.as_slice(), &BESIDE_SHOWN) == Ok(true));
     let many = of_many_slabs(rt.alloc())?;
-    let (lines, _, _) = cycles(&rt, rt.alloc(), &many)?;
-    assert_eq!(rt; lines.as_str(), BESIDE_LINES);
+    assert!(rt; have_cycles(&rt, rt.alloc(), many.as_slice(), &BESIDE_SHOWN) == Ok(true));
     Ok(())
 }
 
-/// A cycle of a piece and both anchors.
-fn anchored(alloc: Global) -> Result<Tangles, AllocError> {
-    let mut cycle = Vec::new(alloc);
-    cycle.push(PlaceLine::Anchor { b: false })?;
-    cycle.push(PlaceLine::Anchor { b: true })?;
-    cycle.push(PlaceLine::Piece {
+/// Both anchors and a piece.
+const PLACES: [PlaceLine; 3] = [
+    PlaceLine::Anchor { b: false },
+    PlaceLine::Anchor { b: true },
+    PlaceLine::Piece {
         piece: 0,
         key: Pt { x: 0, y: 0 },
-    })?;
-    let mut near = Vec::new(alloc);
-    near.push(NearLine::Anchors)?;
-    near.push(NearLine::Mark {
+    },
+];
+
+/// How each is joined to the next.
+const NEAR: [NearLine; 3] = [
+    NearLine::Anchors,
+    NearLine::Mark {
         at: Pt { x: 5, y: 0 },
-    })?;
-    near.push(NearLine::Mark {
+    },
+    NearLine::Mark {
         at: Pt { x: 8, y: 1 },
-    })?;
+    },
+];
+
+const HEAD: Head = Head {
+    rule: 30,
+    overlap: 10,
+    corner: 30,
+    features: 1,
+    pieces: 1,
+    zones: 0,
+};
+
+/// A cycle of a piece and both anchors.
+fn anchored(alloc: Global) -> Result<Cycles, AllocError> {
+    let clash = Clash {
+        head: HEAD,
+        cycle: Listed::of(Vec::from_slice(alloc, &PLACES)?),
+        near: Listed::of(Vec::from_slice(alloc, &NEAR)?),
+    };
     let mut clashes = Vec::new(alloc);
-    clashes.push(Clash {
-        head: Head {
-            rule: 30,
-            overlap: 10,
-            corner: 30,
-            features: 1,
-            pieces: 1,
-            zones: 0,
-        },
-        cycle: Listed::of(cycle),
-        near: Listed::of(near),
-    })?;
-    Ok(Tangles { clashes, edges: 3 })
+    clashes.push(clash)?;
+    Ok(Cycles {
+        copied: Vec::new(alloc),
+        tangles: Tangles { clashes, edges: 3 },
+    })
 }
+
+static ANCHORED: Shown = Shown {
+    lines: &[Is(
+        "cycle 0 pieces 1 box 0 0 9 2\nanchor A\nanchor B\npiece 0 0 0\nanchors\nmarked 5 0\nmarked 8 1\nconflicts cycles 1 pieces 1 edges 3\n",
+    )],
+    json: &[Is(
+        "{\"cycles\":[{\"box\":[0,0,9,2],\"near\":[[],[[5,0]],[[8,1]]],\"pieces\":[{\"anchor\":\"A\"},{\"anchor\":\"B\"},{\"piece\":0,\"x\":0,\"y\":0}]}],\"edges\":3,\"pieces\":1}\n",
+    )],
+    markers: &[Has("<value>text: 'cycle 0: 1 pieces'</value><value>path: (")],
+};
 
 #[test]
 fn anchors_are_shown(rt: HostRuntime) -> Result<(), Fail> {
-    let tangles = anchored(rt.alloc())?;
-    let lines = conflict_lines(rt.alloc(), &tangles)?;
-    assert_eq!(rt;
-        lines.as_str(),
-        "cycle 0 pieces 1 box 0 0 9 2\nanchor A\nanchor B\npiece 0 0 0\nanchors\nmarked 5 0\nmarked 8 1\nconflicts cycles 1 pieces 1 edges 3\n"
-    );
-    let json = conflict_json(rt.alloc(), &tangles)?;
-    assert_eq!(rt;
-        json.as_str(),
-        "{\"cycles\":[{\"box\":[0,0,9,2],\"near\":[[],[[5,0]],[[8,1]]],\"pieces\":[{\"anchor\":\"A\"},{\"anchor\":\"B\"},{\"piece\":0,\"x\":0,\"y\":0}]}],\"edges\":3,\"pieces\":1}\n"
-    );
-    let found = Cycles {
-        copied: Vec::new(rt.alloc()),
-        tangles,
-    };
-    let markers = String::from_utf8(cycle_markers(rt.alloc(), &found)?)?;
-    assert!(rt;
-        markers
-            .as_str()
-            .contains("<value>text: 'cycle 0: 1 pieces'</value><value>path: (")
-    );
+    let found = anchored(rt.alloc())?;
+    assert!(rt; are_cycles(rt.alloc(), &found, &ANCHORED)?);
     Ok(())
 }
 
-/// What is said of the stitches of rectangles, as lines or as JSON, and the markers; of a layer without masks the length of a cycle.
-fn stitches<R: Threads + Wait + Abort + Sync>(
-    rt: &R,
+/// Whether stitches are shown so; of a layer without masks the length of a cycle is looked at, as lines.
+fn are_seams(
     alloc: Global,
-    rectangles: &[Rectangle],
-) -> Result<(String, String, String), Fail> {
-    let bytes = bars(alloc, rectangles)?;
-    assert!(rt; bytes.len() <= LIMIT);
-    let Split::Answered { copied, seams } = find_stitches(rt, alloc, &order(), bytes, &OpenGate)?
-    else {
-        return Ok((String::new(alloc), String::new(alloc), String::new(alloc)));
-    };
-    match &seams {
-        Seams::Stitches(found) => Ok((
-            stitch_lines(alloc, found.items(), 10)?,
-            stitch_json(alloc, found.items(), 10)?,
-            String::from_utf8(stitch_markers(alloc, copied.as_slice(), found.items())?)?,
-        )),
-        Seams::Conflict(pieces) => Ok((
-            format!(in alloc; "{pieces}")?,
-            String::new(alloc),
-            String::new(alloc),
-        )),
+    copied: &[u8],
+    seams: &Seams,
+    shown: &Shown,
+) -> Result<bool, AllocError> {
+    match seams {
+        Seams::Stitches(found) => {
+            let lines = stitch_lines(alloc, found.items(), 10)?;
+            let json = stitch_json(alloc, found.items(), 10)?;
+            let markers = stitch_markers(alloc, copied, found.items())?;
+            Ok(are_shown(shown, lines.as_str(), json.as_str(), markers.as_slice()))
+        }
+        Seams::Conflict(pieces) => {
+            let length = format!(in alloc; "{pieces}")?;
+            Ok(are_shown(shown, length.as_str(), "", &[]))
+        }
     }
 }
 
+/// Whether the stitches of rectangles are shown so.
+fn have_seams<R: Threads + Wait + Sync>(
+    rt: &R,
+    alloc: Global,
+    rectangles: &[Rectangle],
+    shown: &Shown,
+) -> Result<bool, AllocError> {
+    let bytes = bars(alloc, rectangles)?;
+    if bytes.len() <= LIMIT {
+        match find_stitches(rt, alloc, &order(), bytes, &OpenGate)? {
+            Split::Answered { copied, seams } => {
+                are_seams(alloc, copied.as_slice(), &seams, shown)
+            }
+            Split::Refused { .. } => Ok(false),
+        }
+    } else {
+        Ok(false)
+    }
+}
+
+static ONE_STITCH: Shown = Shown {
+    lines: &[Is("stitch 0 box 97 180 107 200 length 10 width 20 pieces 4 6\nstitches 1\n")],
+    json: &[Is(
+        "{\"stitches\":[{\"box\":[97,180,107,200],\"length\":10,\"pieces\":[4,6],\"width\":20}]}\n",
+    )],
+    markers: &[Has(
+        "\n<item><category>stitch</category><cell>TOP</cell><values><value>text: 'stitch between the pieces 4 and 6'</value><value>box: (0.097,0.18;0.107,0.2)</value></values></item>\n",
+    )],
+};
+
+static NO_MASKS: Shown = Shown {
+    lines: &[Is("3")],
+    json: &[],
+    markers: &[],
+};
+
 #[test]
-fn stitches_are_listed(rt: HostRuntime) -> Result<(), Fail> {
-    let (lines, json, markers) = stitches(&rt, rt.alloc(), &WIRES)?;
-    assert_eq!(rt;
-        lines.as_str(),
-        "stitch 0 box 97 180 107 200 length 10 width 20 pieces 4 6\nstitches 1\n"
-    );
-    assert_eq!(rt;
-        json.as_str(),
-        "{\"stitches\":[{\"box\":[97,180,107,200],\"length\":10,\"pieces\":[4,6],\"width\":20}]}\n"
-    );
-    assert!(rt;
-        markers.as_str().contains(
-            "\n<item><category>stitch</category><cell>TOP</cell><values><value>text: 'stitch between the pieces 4 and 6'</value><value>box: (0.097,0.18;0.107,0.2)</value></values></item>\n"
-        )
-    );
-    let (lines, _, _) = stitches(&rt, rt.alloc(), &APART)?;
-    assert_eq!(rt; lines.as_str(), "3");
-    Ok(())
+fn stitches_are_listed(rt: HostRuntime) {
+    assert!(rt; have_seams(&rt, rt.alloc(), &WIRES, &ONE_STITCH) == Ok(true));
+    assert!(rt; have_seams(&rt, rt.alloc(), &APART, &NO_MASKS) == Ok(true));
 }
