@@ -2,6 +2,10 @@
 #![tactic(auto)]
 
 #[cfg(test)]
+mod cases;
+#[cfg(test)]
 mod hierarchy;
+#[cfg(test)]
+mod layouts;
 #[cfg(test)]
 mod shapes;
