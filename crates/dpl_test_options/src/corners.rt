@@ -1,10 +1,9 @@
 //! A corner rule of its own.
 
-use crate::cases::Content::{Bars, Masks, Text, Texts};
-use crate::cases::Left::{Absent, Is};
-use crate::cases::{Case, Run, all_hold};
 use dpl_run::{Status, USAGE};
-use dpl_test_runs::{BAR, ONE_BAR};
+use dpl_test_runs::Content::{Bars, Masks, Text, Texts};
+use dpl_test_runs::Left::{Absent, Is};
+use dpl_test_runs::{BAR, Case, ONE_BAR, Run, all_hold};
 use dpl_test_sample::Rectangle;
 use std::test::*;
 

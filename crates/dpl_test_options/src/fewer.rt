@@ -1,10 +1,9 @@
 //! Fewer stitches.
 
-use crate::cases::Content::{Bars, Masks, Text, Texts, Top};
-use crate::cases::Left::{As, Is};
-use crate::cases::{Case, Run, all_hold};
 use dpl_run::{Status, USAGE};
-use dpl_test_runs::CHECK;
+use dpl_test_runs::Content::{Bars, Masks, Text, Texts, Top};
+use dpl_test_runs::Left::{As, Is};
+use dpl_test_runs::{CHECK, Case, Run, all_hold};
 use dpl_test_sample::Part::Bar;
 use dpl_test_sample::Rectangle;
 use std::test::*;

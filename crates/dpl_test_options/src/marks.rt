@@ -1,10 +1,9 @@
 //! Squares that markers fix to a mask.
 
-use crate::cases::Content::{Masks, Text, Top};
-use crate::cases::Left::{Absent, Is};
-use crate::cases::{Case, Run, all_hold};
 use dpl_run::Status;
-use dpl_test_runs::{CHECK, SPLIT};
+use dpl_test_runs::Content::{Masks, Text, Top};
+use dpl_test_runs::Left::{Absent, Is};
+use dpl_test_runs::{CHECK, Case, Run, SPLIT, all_hold};
 use dpl_test_sample::Part::{self, Bar, Numbers, Record};
 use std::test::*;
 

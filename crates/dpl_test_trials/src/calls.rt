@@ -1,10 +1,9 @@
 //! Calls of the outside that fail.
 
-use crate::hosts::host_with;
 use dpl_host::{Failing, Kind, MemHost, SureHost};
 use dpl_pool::OpenGate;
 use dpl_run::{Status, run};
-use dpl_test_runs::{BAR, SPLIT, answer, says};
+use dpl_test_runs::{BAR, SPLIT, answer, host_with, says};
 use dpl_test_sample::{bars, is_text, masks, words};
 use std::alloc::{AllocError, Global};
 use std::collections::BTreeMap;

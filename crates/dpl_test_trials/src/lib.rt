@@ -1,5 +1,5 @@
-//! From file to file: masks and conflicts that are checked; files with a fault, calls of the outside that fail and words
-//! that are no command; workers that share the tiles of a layout.
+//! From file to file: files with a fault, calls of the outside that fail and words that are no command; workers that
+//! share the tiles of a layout.
 #![tactic(auto)]
 
 #[cfg(test)]
@@ -7,16 +7,8 @@ mod bytes;
 #[cfg(test)]
 mod calls;
 #[cfg(test)]
-mod certificates;
-#[cfg(test)]
-mod files;
-#[cfg(test)]
-mod hosts;
-#[cfg(test)]
 mod lines;
 #[cfg(test)]
 mod records;
-#[cfg(test)]
-mod verdicts;
 #[cfg(test)]
 mod workers;

@@ -1,8 +1,7 @@
 //! Words that are no command.
 
-use crate::hosts::host_of_layer;
 use dpl_run::{Status, USAGE};
-use dpl_test_runs::{BAR, says};
+use dpl_test_runs::{BAR, host_of_layer, says};
 use std::alloc::{AllocError, Global};
 use std::sync::Wait;
 use std::test::*;

@@ -44,7 +44,7 @@ fn an_optional_record_may_stand_in_its_place(rt: HostRuntime) -> Result<(), Fail
 }
 
 /// The parts of a file, and what it is refused for.
-static REFUSED: [(&[Part<'static>], &str); 15] = [
+static REFUSED: [(&[Part<'static>], &str); 16] = [
     // An optional record behind its place, twice, and in exchanged order.
     (
         &[

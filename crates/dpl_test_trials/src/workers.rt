@@ -1,9 +1,9 @@
 //! Workers that share the tiles of one layer.
 
-use crate::hosts::host_with;
 use dpl_pool::Gate;
 use dpl_run::{Status, run};
 use dpl_test_gates::{Assembly, Counts, Crowd, Holds};
+use dpl_test_runs::host_with;
 use dpl_test_sample::{Part, layout, words};
 use std::alloc::{AllocError, Global};
 use std::sync::Wait;

@@ -1,11 +1,10 @@
 //! Many layers of one file.
 
-use crate::cases::Content::{self, Masks, Text, Top};
-use crate::cases::Left::{self, Absent, As, Is};
-use crate::cases::{Case, Run, all_hold, holds_where};
 use dpl_host::Kind;
 use dpl_run::{Status, USAGE};
-use dpl_test_runs::BAR;
+use dpl_test_runs::Content::{self, Masks, Text, Top};
+use dpl_test_runs::Left::{self, Absent, As, Is};
+use dpl_test_runs::{BAR, Case, Run, all_hold, holds_where};
 use dpl_test_sample::Part::{self, Bar, Numbers, Record};
 use std::test::*;
 

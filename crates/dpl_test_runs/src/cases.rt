@@ -1,8 +1,9 @@
 //! Runs over files in memory: what is in the files before, and what each run says and leaves.
 
+use crate::checks::text;
+use crate::splits::answer;
 use dpl_host::{Failing, MemHost};
 use dpl_run::Status;
-use dpl_test_runs::{answer, text};
 use dpl_test_sample::{Part, Rectangle, bars, finish, host, is_text, library, masks, put_parts};
 use std::alloc::{AllocError, Global};
 use std::sync::Wait;

@@ -1,9 +1,8 @@
 //! What is said of masks and of a conflict.
 
-use crate::hosts::{host_of_layer, host_with};
 use dpl_host::{Failing, MemHost};
 use dpl_run::Status;
-use dpl_test_runs::{CHECK, ONE_BAR, SPLIT, says, text};
+use dpl_test_runs::{CHECK, ONE_BAR, SPLIT, host_of_layer, host_with, says, text};
 use dpl_test_sample::{Rectangle, bars, masks};
 use std::alloc::{AllocError, Global};
 use std::sync::Wait;

@@ -1,11 +1,11 @@
-//! Hosts of the trials.
+//! Hosts in memory.
 
 use dpl_host::{Failing, MemHost};
 use dpl_test_sample::{Rectangle, bars, host};
 use std::alloc::{AllocError, Global};
 
 /// A host with these files, of which a call moves `step` bytes at most, and the listed calls fail.
-pub(crate) fn host_with(
+pub fn host_with(
     alloc: Global,
     files: &[(&'static str, &[u8])],
     step: usize,
@@ -20,7 +20,7 @@ pub(crate) fn host_with(
 }
 
 /// A host with the file of a layer of these rectangles alone.
-pub(crate) fn host_of_layer(alloc: Global, layer: &[Rectangle]) -> Result<MemHost, AllocError> {
+pub fn host_of_layer(alloc: Global, layer: &[Rectangle]) -> Result<MemHost, AllocError> {
     let layer = bars(alloc, layer)?;
     host_with(alloc, &[("in", layer.as_slice())], 4096, &[])
 }

@@ -1,11 +1,10 @@
 //! A layer that is edited before it is split.
 
-use crate::cases::Content::{self, Bars, Edits, Masks, Text};
-use crate::cases::Left::{self, Absent, As, Is};
-use crate::cases::{Case, Run, all_hold, holds_where};
 use dpl_host::Kind;
 use dpl_run::{Status, USAGE};
-use dpl_test_runs::{BAR, answer};
+use dpl_test_runs::Content::{self, Bars, Edits, Masks, Text};
+use dpl_test_runs::Left::{self, Absent, As, Is};
+use dpl_test_runs::{BAR, Case, Run, all_hold, answer, holds_where};
 use dpl_test_sample::{bars, host};
 use std::test::*;
 
