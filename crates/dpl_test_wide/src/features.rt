@@ -81,12 +81,27 @@ fn found<R: Threads + Wait + Sync, G: Gate + Sync>(
     Ok(Some(parts.items().len()))
 }
 
+/// Whether workers find the features of a layer that one finds, and so many.
+fn are_found<R: Threads + Wait + Sync>(
+    rt: &R,
+    alloc: Global,
+    rects: &[Corners],
+    tile: u32,
+    workers: u32,
+    count: usize,
+) -> Result<bool, AllocError> {
+    let features = found(rt, alloc, rects, tile, workers, &OpenGate)?;
+    Ok(features == Some(count))
+}
+
 #[test]
 fn workers_find_the_features_that_one_finds(rt: HostRuntime) {
-    for k in 0..ROWS.len() {
-        let (rects, tile, workers, count) = ROWS[k];
-        let features = found(&rt, rt.alloc(), rects, tile, workers, &OpenGate);
-        assert!(rt; features == Ok(Some(count)), "row {k}");
+    for &(rects, tile, workers, count) in &ROWS {
+        let is_right = are_found(&rt, rt.alloc(), rects, tile, workers, count) == Ok(true);
+        assert!(rt;
+            is_right,
+            "{count} by {workers} workers, with tiles of {tile}"
+        );
     }
 }
 

@@ -77,10 +77,9 @@ fn make_treads<R: Threads + Sync>(
 ) -> Result<bool, AllocError> {
     let set = set_of_treads(alloc, turn)?;
     let rects = treads(alloc, turn)?;
-    if set.rects().len() != SLABS || !make_set(rt, alloc, rects, workers, &set)? {
-        return Ok(false);
-    }
-    make_columns(rt, alloc, &set, workers)
+    let is_made = make_set(rt, alloc, rects, workers, &set)?;
+    let has_columns = make_columns(rt, alloc, &set, workers)?;
+    Ok(is_made && has_columns && set.rects().len() == SLABS)
 }
 
 /// Whether the stairs are turned, and how many workers share them. Upright, each stair is a strip. Turned, each is a block, and a strip of the columns.

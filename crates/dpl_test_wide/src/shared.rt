@@ -191,7 +191,8 @@ fn find_in_ladder<R: Threads + Sync>(
     let rects = ladder(alloc)?;
     let parts = features_of(alloc, &rects)?;
     let alone = zones(alloc, &parts, SPACING, 10, &Slabs::empty(alloc))?;
-    Ok(alone.len() == ZONES && find(rt, alloc, &parts, workers, &alone)?)
+    let are_same = find(rt, alloc, &parts, workers, &alone)?;
+    Ok(are_same && alone.len() == ZONES)
 }
 
 /// How many workers find them.
