@@ -69,22 +69,23 @@ fn holds(alloc: Global, case: &Case<'_>, spacing: Spacing) -> Result<bool, Alloc
     let Some(cert) = cert_of(alloc, case.text)? else {
         return Ok(false);
     };
-    let sets = sets_of(
-        alloc,
-        &[case.layer, case.a, case.b, case.mark_a, case.mark_b],
-    )?;
+    let texts = [case.layer, case.a, case.b, case.mark_a, case.mark_b];
+    let Some(sets) = sets_of(alloc, &texts)? else {
+        return Ok(false);
+    };
     let found = verdict_of(alloc, &cert, sets.as_slice(), case.asked, spacing)?;
     Ok(found == Some(case.verdict))
 }
 
-/// Fails at the first case of which something else is said, with its number from 0.
+/// Fails at the first case of which something else is said, with its number from 0 and its certificate.
 pub fn all_hold(alloc: Global, cases: &[Case<'_>], spacing: Spacing) -> Result<(), Fail>
     requires corner { spacing.corner ≤ spacing.rule }
     requires rule { IsRule spacing.rule }
 {
     for (number, case) in cases.iter().enumerate() {
         if !holds(alloc, case, spacing)? {
-            return Err(Fail::new(format_args!("case {number}")));
+            let text = case.text;
+            return Err(Fail::new(format_args!("case {number}: {text}")));
         }
     }
     Ok(())

@@ -28,48 +28,68 @@ fn is_span(low: i32, high: i32) -> bool
     true
 }
 
-/// The squares of a rectangle, where it has some.
-fn one(alloc: Global, corners: Corners) -> Result<Slabs, AllocError> {
+/// The squares of a rectangle. None where it has none, or isn't one of a layer.
+fn one(alloc: Global, corners: Corners) -> Result<Option<Slabs>, AllocError> {
     let (x0, y0, x1, y1) = corners;
     if is_span(x0, x1) {
         if is_span(y0, y1) {
-            return Slabs::one(alloc, Rect { x0, y0, x1, y1 });
+            return Ok(Some(Slabs::one(alloc, Rect { x0, y0, x1, y1 })?));
         }
     }
-    Ok(Slabs::empty(alloc))
+    Ok(None)
 }
 
-/// The corners that a text has, each a word; all 0 where it hasn't four.
-fn corners_of(alloc: Global, text: &str) -> Result<Corners, AllocError> {
-    let mut corners = Vec::new(alloc);
-    for word in text.split(' ') {
-        if let Ok(corner) = word.parse::<i32>() {
-            corners.push(corner)?;
-        }
-    }
-    match *corners.as_slice() {
-        [x0, y0, x1, y1] => Ok((x0, y0, x1, y1)),
-        _ => Ok((0, 0, 0, 0)),
+/// The number that a word is, if there is one and it is a number.
+fn number(word: Option<&str>) -> Option<i32> {
+    word?.parse::<i32>().ok()
+}
+
+/// The corners that a text has: four numbers, which spaces part. None where it has anything else.
+fn corners_of(text: &str) -> Option<Corners> {
+    let mut words = text.trim().split(' ');
+    let x0 = number(words.next())?;
+    let y0 = number(words.next())?;
+    let x1 = number(words.next())?;
+    let y1 = number(words.next())?;
+    match words.next() {
+        Some(_) => None,
+        None => Some((x0, y0, x1, y1)),
     }
 }
 
-/// The squares of the rectangles in a text, which commas part.
-fn set_of(alloc: Global, text: &str) -> Result<Slabs, AllocError> {
+/// The squares of the rectangle that a text is, if it is one.
+fn part_of(alloc: Global, text: &str) -> Result<Option<Slabs>, AllocError> {
+    match corners_of(text) {
+        Some(corners) => one(alloc, corners),
+        None => Ok(None),
+    }
+}
+
+/// The squares of the rectangles in a text, which commas part; an empty text has none. None where a part isn't a rectangle.
+fn set_of(alloc: Global, text: &str) -> Result<Option<Slabs>, AllocError> {
     let mut set = Slabs::empty(alloc);
+    if text.is_empty() {
+        return Ok(Some(set));
+    }
     for part in text.split(',') {
-        let next = one(alloc, corners_of(alloc, part)?)?;
+        let Some(next) = part_of(alloc, part)? else {
+            return Ok(None);
+        };
         set = set.union(alloc, &next)?;
     }
-    Ok(set)
+    Ok(Some(set))
 }
 
-/// The squares of each text.
-pub fn sets_of(alloc: Global, texts: &[&str]) -> Result<Vec<Slabs>, AllocError> {
+/// The squares of each text. None where a text doesn't list rectangles.
+pub fn sets_of(alloc: Global, texts: &[&str]) -> Result<Option<Vec<Slabs>>, AllocError> {
     let mut sets = Vec::new(alloc);
     for text in texts {
-        sets.push(set_of(alloc, text)?)?;
+        let Some(set) = set_of(alloc, text)? else {
+            return Ok(None);
+        };
+        sets.push(set)?;
     }
-    Ok(sets)
+    Ok(Some(sets))
 }
 
 /// The certificate that a text is, if it is one.

@@ -181,12 +181,22 @@ fn again(alloc: Global, text: &str) -> Result<Vec<u8>, CertFault> {
     Ok(cert_bytes(alloc, &cert)?)
 }
 
+/// The line at which a text is refused, or None where it is whole, by what stands before it. None where that says neither.
+fn bad_line(head: &str) -> Option<Option<u64>> {
+    match head.trim_start() {
+        "whole" => Some(None),
+        line => Some(Some(line.parse::<u64>().ok()?)),
+    }
+}
+
 /// Whether a text is what the line before it says.
 fn holds(alloc: Global, case: &str) -> bool {
     let Some((head, text)) = case.split_once('\n') else {
         return false;
     };
-    let bad = head.trim_start().parse::<u64>().ok();
+    let Some(bad) = bad_line(head) else {
+        return false;
+    };
     match again(alloc, text) {
         Ok(bytes) => bad == None && bytes.as_slice() == text.as_bytes(),
         Err(CertFault::BadLine { line }) => bad == Some(line),
@@ -194,10 +204,13 @@ fn holds(alloc: Global, case: &str) -> bool {
     }
 }
 
-/// Fails at the first text that isn't what the line before it says.
+/// Fails at the first text that isn't what the line before it says. There is one at least.
 fn all_hold(alloc: Global, cases: &str) -> Result<(), Fail> {
+    let Some(cases) = cases.strip_prefix('#') else {
+        return Err(Fail::new(format_args!("no text begins here: {cases}")));
+    };
     for case in cases.split('#') {
-        if !case.is_empty() && !holds(alloc, case) {
+        if !holds(alloc, case) {
             return Err(Fail::new(format_args!("{case}")));
         }
     }
