@@ -21,4 +21,4 @@ mod tiles;
 #[cfg(test)]
 mod zones;
 
-pub use bars::{BARS, Corners, RING, SPACING, are, cut, rects_of, set_of};
+pub use bars::{BARS, Corners, RING, SPACING, rects_of, set_of};

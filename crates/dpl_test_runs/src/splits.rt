@@ -12,7 +12,7 @@ use std::thread::Threads;
 pub const SPLIT: &str = "dpl split --layer 1 --rule 30 --overlap 10 in out cert";
 
 /// What is said of one bar, behind `done `.
-pub const ONE_LINE: &str = "features 1 pieces 1 zones 0 stitches 0 a 1 b 0";
+const ONE_LINE: &str = "features 1 pieces 1 zones 0 stitches 0 a 1 b 0";
 
 /// A layer on two masks: what is said behind `done `, the lines of the certificate behind the rule, and both masks.
 #[derive(Clone, Copy)]
