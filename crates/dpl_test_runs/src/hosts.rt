@@ -4,6 +4,18 @@ use dpl_host::{Failing, MemHost};
 use dpl_test_sample::{Rectangle, bars, host};
 use std::alloc::{AllocError, Global};
 
+/// Adds a file of this name with these bytes.
+fn add_file(
+    alloc: Global,
+    files: &mut Vec<(&'static str, Vec<u8>)>,
+    name: &'static str,
+    bytes: &[u8],
+) -> Result<(), AllocError> {
+    let bytes = Vec::from_slice(alloc, bytes)?;
+    files.push((name, bytes))?;
+    Ok(())
+}
+
 /// A host with these files, of which a call moves `step` bytes at most, and the listed calls fail.
 pub fn host_with(
     alloc: Global,
@@ -13,7 +25,7 @@ pub fn host_with(
 ) -> Result<MemHost, AllocError> {
     let mut named = Vec::new(alloc);
     for &(name, bytes) in files {
-        named.push((name, Vec::from_slice(alloc, bytes)?))?;
+        add_file(alloc, &mut named, name, bytes)?;
     }
     let failing = Vec::from_slice(alloc, failing)?;
     host(alloc, named, step.max(1), failing)

@@ -53,6 +53,42 @@ pub fn answer<R: Threads + Wait + Sync>(
     Ok(run(rt, alloc, &words, host, &OpenGate))
 }
 
+/// A host with one file.
+fn host_with_file(alloc: Global, file: Vec<u8>) -> Result<MemHost, AllocError> {
+    host(alloc, vec![in alloc; ("in", file)]?, 4096, Vec::new(alloc))
+}
+
+/// The host after a run of the line on the file. None where the run doesn't end so.
+fn left_by<R: Threads + Wait + Sync>(
+    rt: &R,
+    alloc: Global,
+    line: &str,
+    file: Vec<u8>,
+    status: Status,
+) -> Result<Option<MemHost>, AllocError> {
+    let mut host = host_with_file(alloc, file)?;
+    if answer(rt, alloc, line, &mut host)? == status {
+        Ok(Some(host))
+    } else {
+        Ok(None)
+    }
+}
+
+/// Whether the line and the certificate that a split left are these.
+fn tells_done(host: &MemHost, done: &Done<'_>) -> bool {
+    is_text(Some(host.said()), &["done ", done.line, "\n"])
+        && is_text(
+            host.file("cert"),
+            &["dpl 1\nrule 30 overlap 10\n", done.cert, "end\n"],
+        )
+}
+
+/// Whether the masks that a split left are these.
+fn has_masks(alloc: Global, host: &MemHost, done: &Done<'_>) -> Result<bool, AllocError> {
+    let out = masks(alloc, done.a, done.b)?;
+    Ok(host.file("out") == Some(out.as_slice()))
+}
+
 /// Whether the line splits the file so.
 pub fn is_done<R: Threads + Wait + Sync>(
     rt: &R,
@@ -61,18 +97,20 @@ pub fn is_done<R: Threads + Wait + Sync>(
     file: Vec<u8>,
     done: &Done<'_>,
 ) -> Result<bool, AllocError> {
-    let mut host = host(alloc, vec![in alloc; ("in", file)]?, 4096, Vec::new(alloc))?;
-    let status = answer(rt, alloc, line, &mut host)?;
-    let out = masks(alloc, done.a, done.b)?;
-    Ok(
-        status == Status::Done
-            && is_text(Some(host.said()), &["done ", done.line, "\n"])
-            && is_text(
-                host.file("cert"),
-                &["dpl 1\nrule 30 overlap 10\n", done.cert, "end\n"],
-            )
-            && host.file("out") == Some(out.as_slice()),
-    )
+    match left_by(rt, alloc, line, file, Status::Done)? {
+        Some(host) => Ok(tells_done(&host, done) && has_masks(alloc, &host, done)?),
+        None => Ok(false),
+    }
+}
+
+/// Whether a split left a conflict of three pieces, and these lines of the certificate, and no masks.
+fn tells_conflict(host: &MemHost, cert: &str) -> bool {
+    host.said() == b"conflict cycle 3\n".as_slice()
+        && is_text(
+            host.file("cert"),
+            &["dpl 1\nrule 30 overlap 10\n", cert, "end\n"],
+        )
+        && host.file("out") == None
 }
 
 /// Whether the line finds an odd cycle of three pieces in the file, and these lines of the certificate tell of it.
@@ -83,17 +121,17 @@ pub fn is_conflict<R: Threads + Wait + Sync>(
     file: Vec<u8>,
     cert: &str,
 ) -> Result<bool, AllocError> {
-    let mut host = host(alloc, vec![in alloc; ("in", file)]?, 4096, Vec::new(alloc))?;
-    let status = answer(rt, alloc, line, &mut host)?;
-    Ok(
-        status == Status::Conflict
-            && host.said() == b"conflict cycle 3\n".as_slice()
-            && is_text(
-                host.file("cert"),
-                &["dpl 1\nrule 30 overlap 10\n", cert, "end\n"],
-            )
-            && host.file("out") == None,
-    )
+    match left_by(rt, alloc, line, file, Status::Conflict)? {
+        Some(host) => Ok(tells_conflict(&host, cert)),
+        None => Ok(false),
+    }
+}
+
+/// Whether a split left this fault in its line and its certificate, and no masks.
+fn tells_fault(host: &MemHost, fault: &str) -> bool {
+    is_text(Some(host.said()), &["refused ", fault, "\n"])
+        && is_text(host.file("cert"), &["dpl 1\nfault ", fault, "\nend\n"])
+        && host.file("out") == None
 }
 
 /// Whether the line finds this fault in the file, and its certificate tells the same.
@@ -104,14 +142,10 @@ pub fn is_refused<R: Threads + Wait + Sync>(
     file: Vec<u8>,
     fault: &str,
 ) -> Result<bool, AllocError> {
-    let mut host = host(alloc, vec![in alloc; ("in", file)]?, 4096, Vec::new(alloc))?;
-    let status = answer(rt, alloc, line, &mut host)?;
-    Ok(
-        status == Status::Refused
-            && is_text(Some(host.said()), &["refused ", fault, "\n"])
-            && is_text(host.file("cert"), &["dpl 1\nfault ", fault, "\nend\n"])
-            && host.file("out") == None,
-    )
+    match left_by(rt, alloc, line, file, Status::Refused)? {
+        Some(host) => Ok(tells_fault(&host, fault)),
+        None => Ok(false),
+    }
 }
 
 /// What a made-up layout is said to be, where it is done.
