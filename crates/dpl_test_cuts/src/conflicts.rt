@@ -45,6 +45,12 @@ static ROWS: [(&[Corners], &[Id], &[Edge]); 8] = [
     (&[], &[], &[]),
 ];
 
+/// Whether a plan has just these conflicts.
+fn are_conflicts(alloc: Global, plan: &Plan, want: &[Edge]) -> Result<bool, AllocError> {
+    let found = all_edges(alloc, plan)?;
+    Ok(found.as_slice() == want)
+}
+
 /// Whether pieces of these features have just these conflicts.
 fn have_conflicts(
     alloc: Global,
@@ -59,7 +65,7 @@ fn have_conflicts(
         return Ok(false);
     }
     let plan = plan(alloc, pieces, owner, spacing, 16)?;
-    Ok(all_edges(alloc, &plan)?.as_slice() == want)
+    are_conflicts(alloc, &plan, want)
 }
 
 /// Whether a layout whose pieces are of these features has just these conflicts.
@@ -83,7 +89,23 @@ fn finds_the_conflicts(rt: HostRuntime) {
     }
 }
 
-/// Whether so many workers find just these conflicts of a layout, without a plan.
+/// Whether so many workers find just these conflicts of pieces of these features, without a plan.
+fn have_conflicts_by<R: Threads + Sync>(
+    rt: &R,
+    alloc: Global,
+    pieces: &Parts,
+    owner: &[Id],
+    want: &[Edge],
+    workers: u32,
+) -> Result<bool, AllocError> {
+    if pieces.items().len() != owner.len() || workers < 1 {
+        return Ok(false);
+    }
+    let found = all_conflicts_by(rt, alloc, pieces, owner, SPACING, workers)?;
+    Ok(found.as_slice() == want)
+}
+
+/// Whether so many workers find just these conflicts of a layout.
 fn has_conflicts_by<R: Threads + Sync>(
     rt: &R,
     alloc: Global,
@@ -93,11 +115,7 @@ fn has_conflicts_by<R: Threads + Sync>(
     workers: u32,
 ) -> Result<bool, AllocError> {
     let pieces = features_of(alloc, rects)?;
-    if pieces.items().len() != owner.len() || workers < 1 {
-        return Ok(false);
-    }
-    let found = all_conflicts_by(rt, alloc, &pieces, owner, SPACING, workers)?;
-    Ok(found.as_slice() == want)
+    have_conflicts_by(rt, alloc, &pieces, owner, want, workers)
 }
 
 #[test]
@@ -110,16 +128,26 @@ fn workers_find_the_same_conflicts(rt: HostRuntime) {
     }
 }
 
-/// The cycle that searches near single pieces find in pieces of these features; empty where they find none, or where there aren't as many pieces.
-fn cycle_near(alloc: Global, pieces: &Parts, owner: &[Id]) -> Result<Vec<Id>, AllocError> {
+/// Whether searches near single pieces of a crowd find this cycle; empty where they find none.
+fn is_first_cycle(alloc: Global, crowd: &Crowd, want: &[Id]) -> Result<bool, AllocError> {
+    match crowd.first_cycle(alloc)? {
+        Some(cycle) => Ok(cycle.as_slice() == want),
+        None => Ok(want.is_empty()),
+    }
+}
+
+/// Whether searches near single pieces of these features find this cycle.
+fn have_cycle(
+    alloc: Global,
+    pieces: &Parts,
+    owner: &[Id],
+    want: &[Id],
+) -> Result<bool, AllocError> {
     if pieces.items().len() != owner.len() {
-        return Ok(Vec::new(alloc));
+        return Ok(false);
     }
     let crowd = Crowd::of(alloc, pieces, owner, SPACING)?;
-    match crowd.first_cycle(alloc)? {
-        Some(cycle) => Ok(cycle),
-        None => Ok(Vec::new(alloc)),
-    }
+    is_first_cycle(alloc, &crowd, want)
 }
 
 /// Whether searches near single pieces find this cycle in a layout whose pieces are of these features.
@@ -130,7 +158,7 @@ fn has_cycle(
     want: &[Id],
 ) -> Result<bool, AllocError> {
     let pieces = features_of(alloc, rects)?;
-    Ok(cycle_near(alloc, &pieces, owner)?.as_slice() == want)
+    have_cycle(alloc, &pieces, owner, want)
 }
 
 /// Three squares, each near both others.
@@ -177,23 +205,31 @@ fn near_cells(plan: &Plan) -> u32 {
     near
 }
 
-/// How many tiles are laid over two pieces, and how many cells are near the other piece; None where there aren't two, or where a tile finds other conflicts.
-fn tiles_near(alloc: Global, pieces: &Parts) -> Result<Option<(u32, u32)>, AllocError> {
-    if pieces.items().len() != 2 {
-        return Ok(None);
-    }
-    let plan = plan(alloc, pieces, &[0, 1], SPACING, 1)?;
+/// Whether each tile of a plan finds its own.
+fn all_find_their_own(alloc: Global, plan: &Plan) -> Result<bool, AllocError> {
     for tile in 0..plan.tiles() {
-        if !finds_its_own(alloc, &plan, tile)? {
-            return Ok(None);
+        if !finds_its_own(alloc, plan, tile)? {
+            return Ok(false);
         }
     }
-    Ok(Some((plan.tiles(), near_cells(&plan))))
+    Ok(true)
+}
+
+/// Whether 200 tiles are laid over two pieces, of which four are near the other piece, and each finds its own conflicts.
+fn have_tiles_near(alloc: Global, pieces: &Parts) -> Result<bool, AllocError> {
+    if pieces.items().len() != 2 {
+        return Ok(false);
+    }
+    let plan = plan(alloc, pieces, &[0, 1], SPACING, 1)?;
+    if plan.tiles() != 200 || near_cells(&plan) != 4 {
+        return Ok(false);
+    }
+    all_find_their_own(alloc, &plan)
 }
 
 #[test]
 fn tiles_find_their_conflicts(rt: HostRuntime) -> Result<(), Fail> {
     let pieces = features_of(rt.alloc(), &[(0, 0, 10, 10), (28, 33, 38, 43)])?;
-    assert!(rt; tiles_near(rt.alloc(), &pieces)? == Some((200, 4)));
+    assert!(rt; have_tiles_near(rt.alloc(), &pieces) == Ok(true));
     Ok(())
 }

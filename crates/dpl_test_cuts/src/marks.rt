@@ -6,7 +6,6 @@ use dpl_edges::{mark_edges, shifted};
 use dpl_slabs::Parts;
 use dpl_zone::zones;
 use std::alloc::{AllocError, Global};
-use std::test::Fail;
 
 /// The zone of the bars, in the columns from 74 on, between the upper two.
 const ZONE: (Corners, u64) = ((74, 0, 84, 20), 0);
@@ -113,12 +112,16 @@ static JOINED: [(&[Corners], &[Corners], &[Corners], &[Edge]); 5] = [
     (&TWO, &[(0, 20, 1, 21)], &[(100, 0, 101, 20)], &[(0, 1)]),
 ];
 
+/// Whether the edges of bars become these where there are anchors.
+fn are_shifted(alloc: Global, edges: &[Edge], want: &[Edge]) -> Result<bool, AllocError> {
+    let moved = shifted(alloc, edges)?;
+    Ok(moved.as_slice() == want)
+}
+
 #[test]
-fn marks_join_pieces_to_the_other_anchor(rt: HostRuntime) -> Result<(), Fail> {
+fn marks_join_pieces_to_the_other_anchor(rt: HostRuntime) {
     for &(bars, a, b, want) in &JOINED {
         assert!(rt; joins(rt.alloc(), bars, a, b, want) == Ok(true));
     }
-    let moved = shifted(rt.alloc(), &[(0, 1), (0, 5)])?;
-    assert!(rt; moved.as_slice() == [(2, 3), (2, 7)].as_slice());
-    Ok(())
+    assert!(rt; are_shifted(rt.alloc(), &[(0, 1), (0, 5)], &[(2, 3), (2, 7)]) == Ok(true));
 }

@@ -1,7 +1,8 @@
 //! The masks of coloured pieces.
 use crate::bars::{BARS, Corners, RING, are, cut};
-use dpl_masks::{Masks, masks};
+use dpl_masks::masks;
 use dpl_orient::{Colours, Mask};
+use dpl_piece::Pieces;
 use std::alloc::{AllocError, Global};
 
 /// The same bars twice, one above the other.
@@ -14,18 +15,19 @@ const BARS_TWICE: [Corners; 6] = [
     (108, 1040, 158, 1060),
 ];
 
-/// The masks of a layer whose pieces have these letters, where there is one for each piece.
-fn painted(
+/// Whether pieces of these colours have these masks.
+fn have_masks(
     alloc: Global,
-    layer: &[Corners],
-    letters: &[Mask],
-) -> Result<Option<Masks>, AllocError> {
-    let pieces = cut(alloc, layer)?;
-    if letters.len() != pieces.parts().items().len() {
-        return Ok(None);
+    pieces: Pieces,
+    colours: &Colours,
+    on_a: &[Corners],
+    on_b: &[Corners],
+) -> Result<bool, AllocError> {
+    if colours.items().len() != pieces.parts().items().len() {
+        return Ok(false);
     }
-    let colours = Colours::of(Vec::from_slice(alloc, letters)?);
-    Ok(Some(masks(alloc, pieces, &colours)?))
+    let masks = masks(alloc, pieces, colours)?;
+    Ok(are(masks.a.rects(), on_a) && are(masks.b.rects(), on_b))
 }
 
 /// Whether a layer whose pieces have these letters has these masks.
@@ -36,10 +38,9 @@ fn is_painted(
     on_a: &[Corners],
     on_b: &[Corners],
 ) -> Result<bool, AllocError> {
-    match painted(alloc, layer, letters)? {
-        Some(masks) => Ok(are(masks.a.rects(), on_a) && are(masks.b.rects(), on_b)),
-        None => Ok(false),
-    }
+    let colours = Colours::of(Vec::from_slice(alloc, letters)?);
+    let pieces = cut(alloc, layer)?;
+    have_masks(alloc, pieces, &colours, on_a, on_b)
 }
 
 /// The first mask.

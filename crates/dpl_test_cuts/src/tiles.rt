@@ -34,32 +34,36 @@ static ROWS: [(&[Corners], &[Id], u32, u32, CellCorners); 6] = [
     (&PLATE, &[0], 1, 4_196_352, (4093, 4101, 4095, 4103)),
 ];
 
-/// How many tiles are laid over the pieces of a layout, and the last cell, where there is one; None where there aren't as many pieces as owners, or for no side.
-fn laid(
-    alloc: Global,
-    rects: &[Corners],
-    owner: &[Id],
-    tile: u32,
-) -> Result<Option<(u32, CellCorners)>, AllocError> {
-    let pieces = features_of(alloc, rects)?;
-    laid_over(alloc, &pieces, owner, tile)
-}
-
-/// The same of some pieces.
-fn laid_over(
+/// Whether so many tiles are laid over pieces of these owners, and this last cell.
+fn are_laid(
     alloc: Global,
     pieces: &Parts,
     owner: &[Id],
     tile: u32,
-) -> Result<Option<(u32, CellCorners)>, AllocError> {
+    tiles: u32,
+    last: CellCorners,
+) -> Result<bool, AllocError> {
     if pieces.items().len() != owner.len() || tile < 1 {
-        return Ok(None);
+        return Ok(false);
     }
     let plan = plan(alloc, pieces, owner, SPACING, tile)?;
-    Ok(Some((plan.tiles(), last_cell(&plan))))
+    Ok(plan.tiles() == tiles && last_cell(&plan) == last)
 }
 
-/// The corners of a plan's last cell, where there is one.
+/// Whether so many tiles are laid over the pieces of a layout, and this last cell.
+fn lays(
+    alloc: Global,
+    rects: &[Corners],
+    owner: &[Id],
+    tile: u32,
+    tiles: u32,
+    last: CellCorners,
+) -> Result<bool, AllocError> {
+    let pieces = features_of(alloc, rects)?;
+    are_laid(alloc, &pieces, owner, tile, tiles, last)
+}
+
+/// The corners of a plan's last cell, which are all 0 where there is none.
 fn last_cell(plan: &Plan) -> CellCorners {
     let count = plan.tiles();
     if count == 0 {
@@ -72,6 +76,6 @@ fn last_cell(plan: &Plan) -> CellCorners {
 #[test]
 fn lays_tiles(rt: HostRuntime) {
     for &(rects, owner, tile, tiles, last) in &ROWS {
-        assert!(rt; laid(rt.alloc(), rects, owner, tile) == Ok(Some((tiles, last))));
+        assert!(rt; lays(rt.alloc(), rects, owner, tile, tiles, last) == Ok(true));
     }
 }

@@ -8,19 +8,22 @@ use std::alloc::{AllocError, Global};
 /// How far from 0 a coordinate may lie.
 const FAR: i32 = FARTHEST as i32;
 
+/// A bar between two others.
+const BETWEEN: [Corners; 7] = [
+    (0, 0, 400, 20),
+    (0, 40, 50, 60),
+    (0, 40, 20, 200),
+    (0, 180, 190, 200),
+    (350, 40, 400, 60),
+    (380, 40, 400, 200),
+    (215, 180, 400, 200),
+];
+
 /// A layout, and its zones with the features that they cut.
 static ROWS: [(&[Corners], &[(Corners, u64)]); 11] = [
     // a bar between two others has a zone where neither comes near, and so have both others
     (
-        &[
-            (0, 0, 400, 20),
-            (0, 40, 50, 60),
-            (0, 40, 20, 200),
-            (0, 180, 190, 200),
-            (350, 40, 400, 60),
-            (380, 40, 400, 200),
-            (215, 180, 400, 200),
-        ],
+        &BETWEEN,
         &[
             ((195, 0, 205, 20), 0),
             ((0, 115, 20, 125), 1),
@@ -199,10 +202,10 @@ fn add_column(rects: &mut Vec<Corners>, column: u8) -> Result<(), AllocError> {
     Ok(())
 }
 
-/// The first of the worked layouts, ten times as large, and beside it a crowd of so many columns of bars, which are near one another wherever a zone could stand.
+/// The bar between two others, ten times as large, and beside it a crowd of so many columns of bars, which are near one another wherever a zone could stand.
 fn beside_a_crowd(alloc: Global, columns: u8) -> Result<Vec<Corners>, AllocError> {
     let mut rects = Vec::new(alloc);
-    for rect in ROWS[0].0 {
+    for rect in &BETWEEN {
         rects.push(ten_times(rect))?;
     }
     for column in 0..columns {
