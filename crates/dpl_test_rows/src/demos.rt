@@ -6,15 +6,16 @@ use std::sync::Wait;
 use std::test::*;
 use std::thread::Threads;
 
-/// What a made-up layout is said to be: nothing where it isn't done.
-fn demo<R: Threads + Wait + Sync>(
+/// Whether this is said of a made-up layout, which is done.
+fn says<R: Threads + Wait + Sync>(
     rt: &R,
     alloc: Global,
     line: &str,
-) -> Result<Vec<u8>, AllocError> {
+    text: &[u8],
+) -> Result<bool, AllocError> {
     match said(rt, alloc, line)? {
-        Some(text) => Ok(text),
-        None => Ok(Vec::new(alloc)),
+        Some(said) => Ok(said.as_slice() == text),
+        None => Ok(false),
     }
 }
 
@@ -32,8 +33,7 @@ static ROWS: [(&str, &str); 2] = [
 #[test]
 fn rows_are_split(rt: HostRuntime) -> Result<(), Fail> {
     for &(line, text) in &ROWS {
-        let said = demo(&rt, rt.alloc(), line)?;
-        assert!(rt; said.as_slice() == text.as_bytes(), "at {line}");
+        assert!(rt; says(&rt, rt.alloc(), line, text.as_bytes())?, "at {line}");
     }
     Ok(())
 }
@@ -46,14 +46,25 @@ static MORE: [&str; 2] = [
     "dpl demo --seed 0 --rows 1000 --tile 4096 --workers 64",
 ];
 
+/// Whether a thousand rows are split by one worker, and the same is said of them by the line.
+fn is_said_alike<R: Threads + Wait + Sync>(
+    rt: &R,
+    alloc: Global,
+    line: &str,
+) -> Result<bool, AllocError> {
+    let Some(one) = said(rt, alloc, ONE)? else {
+        return Ok(false);
+    };
+    if !one.as_slice().starts_with(b"demo features 2000 ") {
+        return Ok(false);
+    }
+    says(rt, alloc, line, one.as_slice())
+}
+
 #[test]
 fn tiles_and_workers_do_not_show(rt: HostRuntime) -> Result<(), Fail> {
-    let alloc = rt.alloc();
-    let one = demo(&rt, alloc, ONE)?;
-    assert!(rt; one.as_slice().starts_with(b"demo features 2000 "));
-    for line in MORE.iter() {
-        let more = demo(&rt, alloc, line)?;
-        assert!(rt; more.as_slice() == one.as_slice(), "at {line}");
+    for line in &MORE {
+        assert!(rt; is_said_alike(&rt, rt.alloc(), line)?, "at {line}");
     }
     Ok(())
 }

@@ -1,8 +1,8 @@
 //! Layers so large that workers may share the sweep, the columns, the zones, near slabs, edges, pieces, and both files. No answer shows it.
 
 use dpl_host::MemHost;
-use dpl_test_runs::answer;
-use dpl_test_sample::{Rectangle, bars, host};
+use dpl_test_runs::{answer, host_with};
+use dpl_test_sample::{Rectangle, bars};
 use std::alloc::{AllocError, Global};
 use std::sync::Wait;
 use std::test::*;
@@ -16,31 +16,23 @@ const WIRES: u16 = 100;
 
 const ONE: &str = "dpl split --layer 1 --rule 30 --overlap 10 --workers 1 in out cert";
 
-const TWO: &str = "dpl split --layer 1 --rule 30 --overlap 10 --workers 2 in out cert";
-
-const FOUR: &str = "dpl split --layer 1 --rule 30 --overlap 10 --workers 4 in out cert";
-
-/// A large layer with these rectangles, and what is said of it. A second program, in plain Rust and without proofs, says the same.
-struct Large {
-    more: &'static [Rectangle],
-    said: &'static [u8],
-}
-
-/// Without more, and with three squares in conflict.
-static LAYERS: [Large; 2] = [
-    Large {
-        more: &[],
-        said: b"done features 68001 pieces 102298 zones 44098 stitches 0 a 44200 b 34000\n",
-    },
-    Large {
-        more: &[
-            [0, -1_000, 10, -990],
-            [20, -1_000, 30, -990],
-            [10, -980, 20, -970],
-        ],
-        said: b"conflict cycle 3\n",
-    },
+/// By more workers.
+static MORE: [&str; 2] = [
+    "dpl split --layer 1 --rule 30 --overlap 10 --workers 2 in out cert",
+    "dpl split --layer 1 --rule 30 --overlap 10 --workers 4 in out cert",
 ];
+
+/// What is said of the layer. A second program, in plain Rust and without proofs, says the same.
+const DONE: &str = "done features 68001 pieces 102298 zones 44098 stitches 0 a 44200 b 34000\n";
+
+/// Three squares in conflict.
+static TRIANGLE: [Rectangle; 3] = [
+    [0, -1_000, 10, -990],
+    [20, -1_000, 30, -990],
+    [10, -980, 20, -970],
+];
+
+const CONFLICT: &str = "conflict cycle 3\n";
 
 /// The two bars of a row.
 fn bars_of_row(row: u16) -> [Rectangle; 2] {
@@ -70,6 +62,12 @@ fn rectangles(alloc: Global, more: &[Rectangle]) -> Result<Vec<Rectangle>, Alloc
     Ok(all)
 }
 
+/// The file of the layer, with more rectangles in front.
+fn file_of(alloc: Global, more: &[Rectangle]) -> Result<Vec<u8>, AllocError> {
+    let rectangles = rectangles(alloc, more)?;
+    bars(alloc, rectangles.as_slice())
+}
+
 /// The host behind a run of the line on this file.
 fn run_on<R: Threads + Wait + Sync>(
     rt: &R,
@@ -77,28 +75,9 @@ fn run_on<R: Threads + Wait + Sync>(
     line: &str,
     file: &[u8],
 ) -> Result<MemHost, AllocError> {
-    let named = vec![in alloc; ("in", Vec::from_slice(alloc, file)?)]?;
-    let mut host = host(alloc, named, 1_048_576, Vec::new(alloc))?;
+    let mut host = host_with(alloc, &[("in", file)], 1_048_576, &[])?;
     answer(rt, alloc, line, &mut host)?;
     Ok(host)
-}
-
-/// Whether this is said of a large layer by one worker, and the same by more, which leave the same masks and certificate.
-fn is_split_alike<R: Threads + Wait + Sync>(
-    rt: &R,
-    alloc: Global,
-    large: &Large,
-) -> Result<bool, AllocError> {
-    let rectangles = rectangles(alloc, large.more)?;
-    let file = bars(alloc, rectangles.as_slice())?;
-    let one = run_on(rt, alloc, ONE, file.as_slice())?;
-    for line in [TWO, FOUR] {
-        let many = run_on(rt, alloc, line, file.as_slice())?;
-        if !are_alike(&many, &one) {
-            return Ok(false);
-        }
-    }
-    Ok(one.said() == large.said)
 }
 
 /// Whether two runs said the same, and left the same masks and the same certificate.
@@ -108,14 +87,48 @@ fn are_alike(many: &MemHost, one: &MemHost) -> bool {
         && many.file("cert") == one.file("cert")
 }
 
+/// Whether a run of the line on this file is like the one by one worker.
+fn is_like<R: Threads + Wait + Sync>(
+    rt: &R,
+    alloc: Global,
+    line: &str,
+    file: &[u8],
+    one: &MemHost,
+) -> Result<bool, AllocError> {
+    let many = run_on(rt, alloc, line, file)?;
+    Ok(are_alike(&many, one))
+}
+
+/// Whether this is said of the file by one worker, and the same by two and by four, which leave the same masks and certificate.
+fn is_said_alike<R: Threads + Wait + Sync>(
+    rt: &R,
+    alloc: Global,
+    file: &[u8],
+    said: &str,
+) -> Result<bool, AllocError> {
+    let one = run_on(rt, alloc, ONE, file)?;
+    for line in &MORE {
+        if !is_like(rt, alloc, line, file, &one)? {
+            return Ok(false);
+        }
+    }
+    Ok(one.said() == said.as_bytes())
+}
+
+/// Whether this is said of the layer with more rectangles, by all numbers of workers.
+fn is_split_alike<R: Threads + Wait + Sync>(
+    rt: &R,
+    alloc: Global,
+    more: &[Rectangle],
+    said: &str,
+) -> Result<bool, AllocError> {
+    let file = file_of(alloc, more)?;
+    is_said_alike(rt, alloc, file.as_slice(), said)
+}
+
 #[test]
 fn large_layers_are_split_alike_by_all_workers(rt: HostRuntime) -> Result<(), Fail> {
-    for large in &LAYERS {
-        let count = large.more.len();
-        assert!(rt;
-            is_split_alike(&rt, rt.alloc(), large)?,
-            "with {count} more"
-        );
-    }
+    assert!(rt; is_split_alike(&rt, rt.alloc(), &[], DONE)?);
+    assert!(rt; is_split_alike(&rt, rt.alloc(), &TRIANGLE, CONFLICT)?);
     Ok(())
 }

@@ -4,9 +4,13 @@
 #[cfg(test)]
 mod calls;
 #[cfg(test)]
+mod cases;
+#[cfg(test)]
 mod demos;
 #[cfg(test)]
 mod large;
+#[cfg(test)]
+mod layers;
 #[cfg(test)]
 mod rectangles;
 #[cfg(test)]
