@@ -11,6 +11,9 @@ use std::alloc::{AllocError, Global};
 use std::test::Fail;
 use std::thread::Threads;
 
+/// Three squares, each near both others.
+const TRIANGLE: [Corners; 3] = [(0, 0, 10, 10), (20, 0, 30, 10), (10, 20, 20, 30)];
+
 /// A layout, the feature of each of its pieces, and the pairs of pieces that conflict.
 static ROWS: [(&[Corners], &[Id], &[Edge]); 8] = [
     // bars 29 rows apart, and 30
@@ -19,18 +22,9 @@ static ROWS: [(&[Corners], &[Id], &[Edge]); 8] = [
     // corners 18 and 23 apart, and 18 and 24
     (&[(0, 0, 10, 10), (28, 33, 38, 43)], &[0, 1], &[(0, 1)]),
     (&[(0, 0, 10, 10), (28, 34, 38, 44)], &[0, 1], &[]),
-    // three squares, each near both others
-    (
-        &[(0, 0, 10, 10), (20, 0, 30, 10), (10, 20, 20, 30)],
-        &[0, 1, 2],
-        &[(0, 1), (0, 2), (1, 2)],
-    ),
-    // two pieces of one feature, and a third near both
-    (
-        &[(0, 0, 10, 10), (20, 0, 30, 10), (10, 20, 20, 30)],
-        &[0, 0, 1],
-        &[(0, 2), (1, 2)],
-    ),
+    // three features, and two pieces of one feature with a third near both
+    (&TRIANGLE, &[0, 1, 2], &[(0, 1), (0, 2), (1, 2)]),
+    (&TRIANGLE, &[0, 0, 1], &[(0, 2), (1, 2)]),
     // a cross of three slabs near a bar along two of them
     (
         &[
@@ -137,12 +131,7 @@ fn is_first_cycle(alloc: Global, crowd: &Crowd, want: &[Id]) -> Result<bool, All
 }
 
 /// Whether searches near single pieces of these features find this cycle.
-fn have_cycle(
-    alloc: Global,
-    pieces: &Parts,
-    owner: &[Id],
-    want: &[Id],
-) -> Result<bool, AllocError> {
+fn is_cycle(alloc: Global, pieces: &Parts, owner: &[Id], want: &[Id]) -> Result<bool, AllocError> {
     if pieces.items().len() != owner.len() {
         return Ok(false);
     }
@@ -158,11 +147,8 @@ fn has_cycle(
     want: &[Id],
 ) -> Result<bool, AllocError> {
     let pieces = features_of(alloc, rects)?;
-    have_cycle(alloc, &pieces, owner, want)
+    is_cycle(alloc, &pieces, owner, want)
 }
-
-/// Three squares, each near both others.
-static TRIANGLE: [Corners; 3] = [(0, 0, 10, 10), (20, 0, 30, 10), (10, 20, 20, 30)];
 
 #[test]
 fn a_cycle_is_found_near_the_first_piece(rt: HostRuntime) {

@@ -5,11 +5,14 @@ use dpl_join::{Item, Join, Pair};
 use std::alloc::{AllocError, Global};
 
 /// A tall rectangle.
-const TALL: Rect = Rect {
-    x0: 0,
-    y0: 0,
-    x1: 10,
-    y1: 10_000,
+const TALL: Item = Item {
+    rect: Rect {
+        x0: 0,
+        y0: 0,
+        x1: 10,
+        y1: 10_000,
+    },
+    owner: 9,
 };
 
 /// One that lies 9 columns beside it, one that lies 10 beside it, and the tall one twice.
@@ -32,14 +35,8 @@ static ITEMS: [Item; 4] = [
         },
         owner: 8,
     },
-    Item {
-        rect: TALL,
-        owner: 9,
-    },
-    Item {
-        rect: TALL,
-        owner: 9,
-    },
+    TALL,
+    TALL,
 ];
 
 /// Whether just these pairs of the items lie closer than a rule of 10.

@@ -1,5 +1,5 @@
 //! Worked layouts, by a rule of 30 and an overlap of 10.
-use crate::bars::{Corners, SPACING, features_of};
+use crate::bars::{BARS, Corners, RING, SPACING, features_of};
 use dpl_base::{FARTHEST, Spacing, Zone};
 use dpl_slabs::Slabs;
 use dpl_zone::zones;
@@ -38,10 +38,7 @@ static ROWS: [(&[Corners], &[(Corners, u64)]); 11] = [
         &[],
     ),
     // a stretch of twelve columns, and one of eleven
-    (
-        &[(0, 0, 158, 20), (0, 40, 50, 60), (108, 40, 158, 60)],
-        &[((74, 0, 84, 20), 0)],
-    ),
+    (&BARS, &[((74, 0, 84, 20), 0)]),
     (&[(0, 0, 157, 20), (0, 40, 50, 60), (107, 40, 157, 60)], &[]),
     // one square leaves eleven columns of a bar on each side, and twelve on the right
     (
@@ -66,12 +63,7 @@ static ROWS: [(&[Corners], &[(Corners, u64)]); 11] = [
     (&[(0, 0, 10, 10), (10, 10, 20, 20)], &[]),
     // a square with a hole
     (
-        &[
-            (0, 0, 100, 40),
-            (0, 40, 40, 60),
-            (60, 40, 100, 60),
-            (0, 60, 100, 100),
-        ],
+        &RING,
         &[
             ((45, 0, 55, 40), 0),
             ((0, 45, 40, 55), 0),
