@@ -18,7 +18,7 @@ use Rattle.dpl_masks.specs.Bytes.{closing_bytes, boundary_bytes}
 use Rattle.dpl_syntax.specs.Reading as reading
 use Rattle.dpl_syntax.specs.Reading.{◌>>=◌}
 use Rattle.dpl_syntax.specs.Passing.{Passes, PassesPart, PassesNamed, is_part, same, class_first, elements_first, endstr_first}
-use Rattle.dpl_syntax.specs.Passing.{structure_then, structures_first, endlib_first, IsNext, IsStructure, AreElements, AreStructures}
+use Rattle.dpl_syntax.specs.Passing.{structure_then, structures_first, endlib_first, IsNext, IsStructure, AreElements, AreStructures, AreTakenElements}
 use Rattle.dpl_syntax.proofs.Languages.{ends_many, exists_rest}
 use Rattle.dpl_syntax.proofs.Steps.{agreed}
 use Rattle.dpl_syntax.proofs.Taking.{same_record}
@@ -212,11 +212,20 @@ module _ (h b l u g n hb bb lb ub gb nb : List ℕ) (is_h : IsRecord h kinds.hea
     elements = elements_from (length p6) ss;
   }
 
+  taken-elements : AreTakenElements whole_file (elements_from (length p6) ss) (length p6) (length p8)
+  taken-elements = record {
+    first = length p6;
+    end = length p7;
+    endstr = rec p7 e1 kinds.endstr [];
+    classes = classes;
+    elements = elements;
+    ends = takes whole_file kinds.endstr (length p7) (rec p7 e1 kinds.endstr []) found-e1 refl;
+  }
+
   one-structure : PassesNamed whole_file [] structure_then same (IsStructure whole_file top_made) (length p4) (length p8)
   one-structure =
       structure_ok whole_file (length p4) (rec p4 g kinds.bgnstr gb) [] found-g refl (rec p5 n kinds.strname nb, length p6) strname
-      (length p6) (length p7) (elements_from (length p6) ss) (rec p7 e1 kinds.endstr [], length p8) classes elements
-      (takes whole_file kinds.endstr (length p7) (rec p7 e1 kinds.endstr []) found-e1 refl)
+      (length p8) (elements_from (length p6) ss) taken-elements
 
   next-g : IsNext whole_file (length p4) kinds.bgnstr (rec p4 g kinds.bgnstr gb)
   next-g =

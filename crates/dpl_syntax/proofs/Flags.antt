@@ -49,3 +49,6 @@ module _ (kind : ℕ) where
         → flags_end bytes at ≡ Ok next → Answers view result (body_behind_flags bytes kind next) → Answers view result (body_at bytes kind at)
     answers_body view result at next is answers =
         subst (Answers view result) (sym (body_by_flags at ∙ ap (λ (r : Result ℕ Fault). r >>= body_behind_flags bytes kind) is)) answers
+
+    pub no_flags : (at : ℕ) (f : Fault) → flags_end bytes at ≡ Err f → body_at bytes kind at ≡ Err f
+    no_flags at f e = body_by_flags at ∙ ap (λ (r : Result ℕ Fault). r >>= body_behind_flags bytes kind) e

@@ -19,3 +19,4 @@ pub mod WholeLibraries
 pub mod OneReading
 pub mod PlainBoundaries
 pub mod Chains
+pub mod Sizes

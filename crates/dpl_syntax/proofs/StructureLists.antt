@@ -1,23 +1,25 @@
 -- Reading the structures of a library.
-use Rattle.std.proofs.Common.{◌≡◌, ℕ, Bool, true, false, ◌||◌, cond, eqb, List, [], ◌∷◌, ◌++◌, map}
-use Rattle.std.proofs.Common.{Err, refl, sym, subst, ap, ◌∙◌, append_assoc}
+use Rattle.std.proofs.Common.{◌≡◌, ℕ, Bool, true, false, ◌||◌, inl, inr, cond, eqb, List, [], ◌∷◌, ◌++◌, map}
+use Rattle.std.proofs.Common.{◌<◌, ◌≤◌, length, Some, Ok, Err, refl, sym, subst, ap, ◌∙◌, append_assoc}
 use Rattle.std.specs.List.{list_any}
 use Rattle.std.proofs.lemmas.List.{append-nil, map-append}
 use Rattle.indexmap.specs.IndexMap.{insert_entry}
 use Rattle.dpl_spec_format.specs.Kinds as kinds
 use Rattle.dpl_spec_format.specs.Faults.{Fault}
 use Rattle.dpl_spec_format.specs.Records.{Record, record_at}
-use Rattle.dpl_spec_format.specs.Grammar.{Grammar, both, many, a}
+use Rattle.dpl_spec_format.specs.Grammar.{many, a}
 use Rattle.dpl_spec_format.specs.Grammar as grammar
 use Rattle.dpl_spec_format.specs.Stream.{names}
 use Rattle.dpl_spec_format.specs.Tree as tree
 use Rattle.dpl_spec_format.specs.Tree.{structure_of}
+use Rattle.dpl_spec_format.specs.Layout.{IsFirstFault}
+use Rattle.dpl_syntax.specs.Reading as reading
 use Rattle.dpl_syntax.specs.Reached.{Reached}
 use Rattle.dpl_syntax.specs.Libraries.{Entries, structures_seen, known_names}
 use Rattle.dpl_syntax.specs.Passing.{same, PassesNamed, FailsNamed, structure_then, structures_first, endlib_first, split_structures, IsNext, IsOther, IsStructure, AreStructures}
 use Rattle.dpl_syntax.proofs.Languages.{takes_many, ends_many, exists_rest, exists_both, avoids_one}
-use Rattle.dpl_syntax.proofs.Steps.{agreed, stops}
-use Rattle.dpl_syntax.proofs.Taking.{same_record}
+use Rattle.dpl_syntax.proofs.Steps.{agreed, stops, stops_at}
+use Rattle.dpl_syntax.proofs.Taking.{same_record, missed, if_some}
 use Rattle.dpl_syntax.proofs.Slotting.{names-append}
 use Rattle.dpl_syntax.proofs.Lists.{avoids_a}
 use Rattle.dpl_syntax.proofs.WholeStructures.{some_structure, inside}
@@ -66,6 +68,17 @@ structures_push bytes ss s rs qs first second = record {
 }
 
 -- ---- reading on
+
+-- a record that was taken was the next
+pub is_next : (bytes : List ℕ) (kind at n : ℕ) (r : Record) → reading.take_if bytes kind at ≡ Ok (Some r, n) → r.at ≡ at → r.at < r.next
+    → r.next ≤ length bytes → IsNext bytes at kind r
+is_next bytes kind at n r e at_is after within =
+    let s = if_some bytes kind at r n e in
+    record { found = s.0; at_is = at_is; after = subst (λ (x : ℕ). x < r.next) at_is after; within = within; is = s.1 }
+
+-- it stands at its offset
+pub is_here : (bytes : List ℕ) (kind at : ℕ) (r : Record) → IsNext bytes at kind r → IsNext bytes r.at kind r
+is_here bytes kind at r next = subst (λ (x : ℕ). IsNext bytes x kind r) (sym next.at_is) next
 
 module _ (bytes : List ℕ) (from : ℕ) where
   pub no_structure : PassesNamed bytes [] structures_first structures_first (AreStructures bytes []) from from
@@ -119,3 +132,14 @@ module _ (bytes : List ℕ) (from : ℕ) where
               (same_record (record_at bytes at) other.0 x other.1 found) other.2)))
               (exists_rest (many grammar.structure) (a kinds.endlib) p.2.some),
         )
+
+  -- behind the last structure is no ENDLIB
+  pub no_endlib : (n : ℕ) (ss : List tree.Structure) (f : Fault) → PassesNamed bytes [] structures_first endlib_first (AreStructures bytes ss) from n
+      → reading.take bytes kinds.endlib n ≡ Err f → FailsNamed bytes [] structures_first from f
+  no_endlib n ss f passes e before rest named reached =
+      let p = passes before rest named reached in
+      elim (missed kinds.endlib n (record_at bytes n) f e) [
+        | inl x ↦ stops bytes (before ++ p.0) n (a kinds.endlib) f p.2 x
+        | inr m ↦ subst (IsFirstFault bytes) m.3 (stops_at bytes (before ++ p.0) n (a kinds.endlib) m.0 p.2 m.1
+            (avoids_one (λ j. eqb j kinds.endlib) m.0.kind m.2))
+      ]

@@ -1,12 +1,12 @@
 -- Reading a whole library.
-use Rattle.std.proofs.Common.{◌≡◌, ℕ, Bool, false, inl, inr, cond, eqb, List, [], ◌∷◌, ◌++◌, map, Option, Some}
+use Rattle.std.proofs.Common.{◌≡◌, ℕ, Bool, false, cond, eqb, List, [], ◌∷◌, ◌++◌, map, Option, Some}
 use Rattle.std.proofs.Common.{Ok, Err, refl, sym, subst, ap, ◌∙◌, append_assoc}
 use Rattle.std.proofs.lemmas.Bool.{eqb-false, eq-eqb}
 use Rattle.std.proofs.lemmas.List.{append-nil}
 use Rattle.dpl_spec_format.specs.Kinds as kinds
 use Rattle.dpl_spec_format.specs.Faults.{Fault}
 use Rattle.dpl_spec_format.specs.Records.{Record, record_at, Lies}
-use Rattle.dpl_spec_format.specs.Grammar.{Grammar, Has, both, many, a, library}
+use Rattle.dpl_spec_format.specs.Grammar.{Grammar, Has, many, a, library}
 use Rattle.dpl_spec_format.specs.Grammar as grammar
 use Rattle.dpl_spec_format.specs.Stream.{kinds_of, names, refusal_in}
 use Rattle.dpl_spec_format.specs.Tree as tree
@@ -17,8 +17,8 @@ use Rattle.dpl_syntax.specs.Reached.{Reached}
 use Rattle.dpl_syntax.specs.Passing.{skips_then, part_then, SkipsNone, AreSkipped, IsPart, PassesPart, FailsSkips, PassesNamed}
 use Rattle.dpl_syntax.specs.Passing.{FailsNamed, structures_first, endlib_first, split_structures, AreStructures}
 use Rattle.dpl_syntax.proofs.Languages.{Exists, exists_both, avoids_one, avoids_behind, avoids_many}
-use Rattle.dpl_syntax.proofs.Steps.{lies_push, sound_push, stops, stops_at}
-use Rattle.dpl_syntax.proofs.Taking.{took, missed, take_ok, take_err}
+use Rattle.dpl_syntax.proofs.Steps.{lies_push, sound_push}
+use Rattle.dpl_syntax.proofs.Taking.{took, take_ok, take_err}
 use Rattle.dpl_syntax.proofs.Slotting.{names-append}
 use Rattle.dpl_syntax.proofs.Lists.{avoids_a}
 use Rattle.dpl_syntax.proofs.Ends.{IsNever, never}
@@ -174,14 +174,6 @@ module _ (bytes : List ℕ) where
           module _ (ss : List tree.Structure) (n5 : ℕ) (structures : PassesNamed bytes [] structures_first endlib_first (AreStructures bytes ss) n4 n5) where
             fifth : (rs : List Record) × AreStructures bytes ss rs × Reached bytes (head ++ rs) (a kinds.endlib) n5
             fifth = structures head (a kinds.endlib) head_names fourth.2
-
-            pub no_endlib : (f : Fault) → reading.take bytes kinds.endlib n5 ≡ Err f → IsFirstFault bytes f
-            no_endlib f e =
-                elim (missed kinds.endlib n5 (record_at bytes n5) f e) [
-                  | inl x ↦ stops bytes (head ++ fifth.0) n5 (a kinds.endlib) f fifth.2 x
-                  | inr m ↦ subst (IsFirstFault bytes) m.3 (stops_at bytes (head ++ fifth.0) n5 (a kinds.endlib) m.0 fifth.2 m.1
-                      (avoids_one (λ j. eqb j kinds.endlib) m.0.kind m.2))
-                ]
 
             module _ (z : Record × ℕ) (ended : reading.take bytes kinds.endlib n5 ≡ Ok z) where
               abbrev all : List Record

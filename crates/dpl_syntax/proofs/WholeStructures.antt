@@ -14,12 +14,11 @@ use Rattle.dpl_spec_format.specs.Grammar.{Grammar, both, many, a}
 use Rattle.dpl_spec_format.specs.Grammar as grammar
 use Rattle.dpl_spec_format.specs.Stream.{owner, names, refusal, refusal_in, is_empty}
 use Rattle.dpl_spec_format.specs.Tree as tree
-use Rattle.dpl_spec_format.specs.Tree.{parts, before, first_of, data_or_none, element_of, structure_of}
+use Rattle.dpl_spec_format.specs.Tree.{parts, before, first_of, data_or_none, element_of}
 use Rattle.dpl_spec_format.specs.Layout.{IsFirstFault}
 use Rattle.dpl_syntax.specs.Reading as reading
-use Rattle.dpl_syntax.specs.Reading.{◌>>=◌}
 use Rattle.dpl_syntax.specs.Reached.{Reached}
-use Rattle.dpl_syntax.specs.Passing.{Passes, Fails, same, endstr_first, elements_first, class_first, is_calm, AreCalm, AreElements}
+use Rattle.dpl_syntax.specs.Passing.{Passes, Fails, same, endstr_first, elements_first, class_first, is_calm, AreCalm, AreElements, AreTakenElements}
 use Rattle.dpl_syntax.specs.Passing.{PassesNamed, FailsNamed, structure_then, split_structures, IsStructure}
 use Rattle.dpl_syntax.proofs.Languages.{Exists, Moves, moves_one, moves_agreed, agrees_regrouped, exists_rest, exists_both, regroups, regroups_back}
 use Rattle.dpl_syntax.proofs.Steps.{moved}
@@ -203,6 +202,20 @@ some_structure =
     (exists_both (many (a kinds.structure_class)) (both (many grammar.element) (a kinds.endstr)) (none_many (a kinds.structure_class))
     (exists_both (many grammar.element) (a kinds.endstr) (none_many grammar.element) (one_of kinds.endstr))))
 
+-- ---- the elements, from behind the name on
+
+module _ (bytes : List ℕ) (at n1 : ℕ) (classes : Passes bytes class_first elements_first (AreElements []) at n1) where
+  pub elements_fail : (f : Fault) → Fails bytes elements_first n1 f → Fails bytes class_first at f
+  elements_fail f fails = fails_then bytes class_first elements_first (AreElements []) at n1 f classes fails
+
+  module _ (n2 : ℕ) (es : List tree.Element) (elements : Passes bytes elements_first endstr_first (AreElements es) n1 n2) where
+    pub elements_end : Passes bytes class_first endstr_first (AreElements es) at n2
+    elements_end = passes_then bytes class_first elements_first endstr_first (AreElements []) (AreElements es) (AreElements es) at n1 n2
+        (λ rs qs p q. elements_append [] es rs qs p q) classes elements
+
+    pub no_endstr : (f : Fault) → reading.take bytes kinds.endstr n2 ≡ Err f → Fails bytes class_first at f
+    no_endstr f x = fails_then bytes class_first endstr_first (AreElements es) at n2 f elements_end (fails_one bytes n2 kinds.endstr same f x)
+
 -- ---- reading on
 
 module _ (bytes : List ℕ) (at : ℕ) (h : Record) (known : List (List ℕ)) (found : record_at bytes at ≡ Ok h) (h_is : h.kind ≡ kinds.bgnstr) where
@@ -285,24 +298,7 @@ module _ (bytes : List ℕ) (at : ℕ) (h : Record) (known : List (List ℕ)) (f
     pub fails_behind : (f : Fault) → Fails bytes class_first y.1 f → FailsNamed bytes known structure_then at f
     fails_behind f fails before rest named reached = fails ((before ++ h ∷ []) ++ y.0 ∷ []) rest ((name_ok y e before rest named reached).1)
 
-    pub fails_elements : (n1 : ℕ) (f : Fault) → Passes bytes class_first elements_first (AreElements []) y.1 n1
-        → Fails bytes elements_first n1 f → FailsNamed bytes known structure_then at f
-    fails_elements n1 f classes fails = fails_behind f (fails_then bytes class_first elements_first (AreElements []) y.1 n1 f classes fails)
-
-    body_then : (n1 n2 : ℕ) (es : List tree.Element) → Passes bytes class_first elements_first (AreElements []) y.1 n1
-        → Passes bytes elements_first endstr_first (AreElements es) n1 n2 → Passes bytes class_first endstr_first (AreElements es) y.1 n2
-    body_then n1 n2 es classes elements = passes_then bytes class_first elements_first endstr_first (AreElements []) (AreElements es)
-        (AreElements es) y.1 n1 n2 (λ rs qs p q. elements_append [] es rs qs p q) classes elements
-
-    pub fails_end : (n1 n2 : ℕ) (es : List tree.Element) (f : Fault) → Passes bytes class_first elements_first (AreElements []) y.1 n1
-        → Passes bytes elements_first endstr_first (AreElements es) n1 n2 → reading.take bytes kinds.endstr n2 ≡ Err f
-        → FailsNamed bytes known structure_then at f
-    fails_end n1 n2 es f classes elements x = fails_behind f (fails_then bytes class_first endstr_first (AreElements es) y.1 n2 f
-        (body_then n1 n2 es classes elements) (fails_one bytes n2 kinds.endstr same f x))
-
-    pub structure_ok : (n1 n2 : ℕ) (es : List tree.Element) (z : Record × ℕ)
-        → Passes bytes class_first elements_first (AreElements []) y.1 n1 → Passes bytes elements_first endstr_first (AreElements es) n1 n2
-        → reading.take bytes kinds.endstr n2 ≡ Ok z
+    pub structure_ok : (n : ℕ) (es : List tree.Element) → AreTakenElements bytes es y.1 n
         → PassesNamed bytes known structure_then same
         (IsStructure bytes (record {
           at = h.at;
@@ -310,14 +306,17 @@ module _ (bytes : List ℕ) (at : ℕ) (h : Record) (known : List (List ℕ)) (f
           strname = tree.whole bytes y.0;
           name = name_of y.0.body;
           elements = es;
-        })) at z.1
-    structure_ok n1 n2 es z classes elements x before rest named reached =
-        let n = name_ok y e before rest named reached in
-        let b = body_then n1 n2 es classes elements ((before ++ h ∷ []) ++ y.0 ∷ []) rest n.1 in
-        let t = passes_one bytes n2 kinds.endstr same z never_endstr refl x (((before ++ h ∷ []) ++ y.0 ∷ []) ++ b.0) rest b.2 in
-        let grouped : (((before ++ h ∷ []) ++ y.0 ∷ []) ++ b.0) ++ t.0 ≡ before ++ (h ∷ (y.0 ∷ (b.0 ++ z.0 ∷ []))) =
+        })) at n
+    structure_ok n es taken before rest named reached =
+        let named_ok = name_ok y e before rest named reached in
+        let b = elements_end bytes y.1 taken.first taken.classes taken.end es taken.elements ((before ++ h ∷ []) ++ y.0 ∷ []) rest named_ok.1 in
+        let t = passes_one bytes taken.end kinds.endstr same (taken.endstr, n) never_endstr refl taken.ends (((before ++ h ∷ []) ++ y.0 ∷ []) ++ b.0) rest b.2 in
+        let grouped : (((before ++ h ∷ []) ++ y.0 ∷ []) ++ b.0) ++ t.0 ≡ before ++ (h ∷ (y.0 ∷ (b.0 ++ taken.endstr ∷ []))) =
         append_assoc ((before ++ h ∷ []) ++ y.0 ∷ []) b.0 t.0
         ∙ append_assoc (before ++ h ∷ []) (y.0 ∷ []) (b.0 ++ t.0)
         ∙ append_assoc before (h ∷ []) (y.0 ∷ (b.0 ++ t.0))
-        ∙ ap (λ (q : List Record). before ++ (h ∷ (y.0 ∷ (b.0 ++ q)))) t.1.split in
-        (h ∷ (y.0 ∷ (b.0 ++ z.0 ∷ [])), is_structure bytes h y.0 z.0 b.0 es h_is n.0 t.1.is b.1, subst (λ (q : List Record). Reached bytes q rest z.1) grouped t.2)
+        ∙ ap (λ (q : List Record). before ++ (h ∷ (y.0 ∷ (b.0 ++ q)))) t.1.split in (
+          h ∷ (y.0 ∷ (b.0 ++ taken.endstr ∷ [])),
+          is_structure bytes h y.0 taken.endstr b.0 es h_is named_ok.0 t.1.is b.1,
+          subst (λ (q : List Record). Reached bytes q rest n) grouped t.2,
+        )

@@ -10,6 +10,7 @@ use Rattle.dpl_spec_format.specs.Tree as tree
 use Rattle.dpl_spec_format.specs.Tree.{parts, element_of, structure_of}
 use Rattle.dpl_syntax.specs.Reached.{Reached}
 use Rattle.dpl_syntax.specs.Inner.{AreInner}
+use Rattle.dpl_syntax.specs.Reading.{take}
 
 -- Wherever what is behind is of the grammar `from`, it is of the grammar `to` at `next`, behind records that are so.
 abbrev pub Passes : List ℕ → (Grammar → Grammar) → (Grammar → Grammar) → (List Record → Type 0) → ℕ → ℕ → Type 0
@@ -110,6 +111,15 @@ pub record AreElements (es : List tree.Element) (rs : List Record) : Type 0 wher
   pub are : map element_of each ≡ es
   pub calm : AreCalm rs
 
+-- These elements are what is left of a structure behind its name, up to its ENDSTR, behind which reading has come.
+pub record AreTakenElements (bytes : List ℕ) (es : List tree.Element) (at next : ℕ) : Type 0 where
+  pub first : ℕ
+  pub end : ℕ
+  pub endstr : Record
+  pub classes : Passes bytes class_first elements_first (AreElements []) at first
+  pub elements : Passes bytes elements_first endstr_first (AreElements es) first end
+  pub ends : take bytes kinds.endstr end ≡ Ok (endstr, next)
+
 -- ---- structures
 
 -- The same, where the structures so far have these names.
@@ -158,6 +168,13 @@ pub record AreStructures (bytes : List ℕ) (ss : List tree.Structure) (rs : Lis
   pub are : map (structure_of bytes) each ≡ ss
   pub named : names rs ≡ map (λ (s : tree.Structure). s.name) ss
 
+-- These structures are what is left of a library behind its head, up to its ENDLIB.
+pub record AreTakenStructures (bytes : List ℕ) (ss : List tree.Structure) (at : ℕ) : Type 0 where
+  pub end : ℕ
+  pub endlib : Record × ℕ
+  pub structures : PassesNamed bytes [] structures_first endlib_first (AreStructures bytes ss) at end
+  pub ends : take bytes kinds.endlib end ≡ Ok endlib
+
 -- ---- the head of a library
 
 -- nothing in this grammar begins with a record that is passed over
@@ -193,6 +210,18 @@ abbrev pub PassesPart : List ℕ → ℕ → Record → ℕ → ℕ → Type 0
 PassesPart bytes kind r at next =
     (before : List Record) (rest : Grammar) → SkipsNone rest → Reached bytes before (part_then kind rest) at
     → (rs : List Record) × IsPart kind r rs × Reached bytes (before ++ rs) rest next
+
+-- these are the bytes of a record of a type, behind which reading has come
+pub record IsTakenWhole (bytes : List ℕ) (kind : ℕ) (whole : List ℕ) (at next : ℕ) : Type 0 where
+  pub first : Record
+  pub is : whole ≡ tree.whole bytes first
+  pub found : take bytes kind at ≡ Ok (first, next)
+
+-- the same, where those that are passed over behind it are read too
+pub record IsTakenPart (bytes : List ℕ) (kind : ℕ) (part : List ℕ) (at next : ℕ) : Type 0 where
+  pub first : Record
+  pub is : part ≡ tree.whole bytes first
+  pub passes : PassesPart bytes kind first at next
 
 -- the types of the records in a library's head
 abbrev pub is_part : ℕ → Bool

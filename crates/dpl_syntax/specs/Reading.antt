@@ -8,7 +8,7 @@ use Rattle.dpl_spec_format.specs.Faults.{Fault, unexpected, bad_size, bad_name, 
 use Rattle.dpl_spec_format.specs.Fields.{name_of}
 use Rattle.dpl_spec_format.specs.Records.{Record, record_at}
 use Rattle.dpl_spec_format.specs.Stream.{is_empty}
-use Rattle.dpl_spec_format.specs.Tree.{Body, Finder, body_of}
+use Rattle.dpl_spec_format.specs.Tree.{Body, Trans, Finder, body_of, trans_of}
 use Rattle.dpl_syntax.specs.declared.fault.SyntaxFault.{SyntaxFault}
 use Rattle.dpl_syntax.specs.Outcome.{Refuses}
 
@@ -21,6 +21,15 @@ abbrev pub ◌>>=◌ : {A B : Type 0} → Result A Fault → (A → Result B Fau
 abbrev pub Answers : {X Y : Type 0} → (X → Y) → Result X SyntaxFault → Result Y Fault → Type 0
 Answers view (Ok x) read = read ≡ Ok (view x)
 Answers view (Err e) read = Refuses (λ f. read ≡ Err f) e
+
+-- What is read, of which this holds, and where the next record is.
+pub record IsRead {Y : Type 0} (read : Result (Y × ℕ) Fault) (Is : Y → Type 0) (next : ℕ) : Type 0 where
+  pub from : Y
+  pub found : read ≡ Ok (from, next)
+  pub is : Is from
+
+abbrev pub data_in : Record → List ℕ
+data_in r = r.body
 
 -- What an element has behind its first record, in order.
 pub data Item : Type 0 where
@@ -106,6 +115,18 @@ module _ (bytes : List ℕ) where
     others ← items_at is first.1
     Ok (first.0 ++ others.0, others.1)
 
+-- what a transformation fills
+abbrev pub trans_slots : Option Record → Option Record → Option Record → Slots
+trans_slots strans mag angle = (kinds.strans, strans) ∷ (kinds.mag, mag) ∷ (kinds.angle, angle) ∷ []
+
+-- a transformation or none, read from `at` up to `next`
+pub record IsTransformed (bytes : List ℕ) (at : ℕ) (t : Option Trans) (next : ℕ) : Type 0 where
+  pub strans : Option Record
+  pub mag : Option Record
+  pub angle : Option Record
+  pub fills : item_at bytes transformed at ≡ Ok (trans_slots strans mag angle, next)
+  pub is : t ≡ trans_of (pick (trans_slots strans mag angle))
+
 -- ---- what each element has
 
 abbrev pub boundary : List Item
@@ -139,6 +160,19 @@ text =
     ∷ points 8
     ∷ must kinds.text_string
     ∷ []
+
+-- what a text has between its type and its point
+abbrev pub style : List Item
+style = may kinds.presentation ∷ may kinds.pathtype ∷ may kinds.width ∷ transformed ∷ []
+
+pub record IsStyled (bytes : List ℕ) (at next : ℕ) : Type 0 where
+  pub presentation : Option Record
+  pub pathtype : Option Record
+  pub width : Option Record
+  pub strans : Option Record
+  pub mag : Option Record
+  pub angle : Option Record
+  pub fills : items_at bytes style at ≡ Ok ((kinds.presentation, presentation) ∷ (kinds.pathtype, pathtype) ∷ (kinds.width, width) ∷ trans_slots strans mag angle, next)
 
 abbrev pub node : List Item
 node = must kinds.layer ∷ must kinds.nodetype ∷ must kinds.xy ∷ []

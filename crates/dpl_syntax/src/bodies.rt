@@ -1,64 +1,52 @@
 //! Reading the bodies of elements.
-#![tactic(auto, unfolding(crate::specs::Reading::items_at, dpl_spec_format::specs::Table::form_of, dpl_spec_format::specs::Table::table))]
+#![tactic(auto)]
 
-ghost use Rattle.std.specs.Prelude.{◌≡◌, ◌≤◌, length, IfOk, IsTrue};
+ghost use Rattle.std.specs.Prelude.{◌≡◌, ◌≤◌, length, IfOk, IfErr, OnOk, Err, IsTrue};
 ghost use Rattle.std.specs.Option.{option_map, ForSome};
 ghost use Rattle.dpl_spec_format.specs.Fields as fields;
 ghost use Rattle.dpl_spec_format.specs.Kinds as format;
-ghost use Rattle.dpl_spec_format.specs.Tree.{HasPoints, trans_of};
+ghost use Rattle.dpl_spec_format.specs.Table.{IsSizeOf};
+ghost use Rattle.dpl_spec_format.specs.Tree.{HasPoints};
 ghost use Rattle.dpl_syntax.specs.Elements.{body_seen, trans_seen};
-ghost use Rattle.dpl_syntax.specs.TransRecords.{trans_records_seen, IsSizedTrans};
-ghost use Rattle.dpl_syntax.specs.Reading.{Answers, item_at, transformed, pick, body_at, body_behind_flags, flags_end};
+ghost use Rattle.dpl_syntax.specs.Outcome.{Refuses};
+ghost use Rattle.dpl_syntax.specs.Reading.{Answers, IsTransformed, IsStyled, item_at, items_at, transformed, style, body_at, body_behind_flags, flags_end};
+ghost use Rattle.dpl_syntax.specs.Shapes.{shape, IsShaped};
 
 use crate::element::{Body, Trans};
 use crate::fault::SyntaxFault;
 use crate::reader::Reader;
-use dpl_records::{Record, i16_at, i32_at, kinds, name_of, real_at, u16_at};
+use dpl_records::{i16_at, i32_at, kinds, real_at, u16_at};
 
-/// The records of a transformation: STRANS, and MAG and ANGLE behind it. There is no MAG or ANGLE without STRANS.
+/// What a BOUNDARY, a NODE and a BOX have behind their flags. `number` is the data of the record between LAYER and XY.
 #[derive(Clone, Copy, Drop)]
-struct TransRecords<'a> {
-    strans: Option<Record<'a>>,
-    mag: Option<Record<'a>>,
-    angle: Option<Record<'a>>,
+struct Shape<'a> {
+    layer: u16,
+    number: &'a [u8],
+    xy: &'a [u8],
 }
 
-/// The number in a record of two bytes.
-fn short(found: Option<Record<'_>>) -> Option<i16>
-    requires { ForSome found (λ r. 2 ≤ length r.body.now) }
-    ensures { result ≡ option_map (λ r. fields.i16_at r.body.now 0) found.entry }
+/// The number in the two bytes of a record that may be missing.
+fn short(found: Option<&[u8]>) -> Option<i16>
+    requires { ForSome found (λ d. 2 ≤ length d.now) }
+    ensures { result ≡ option_map (λ d. fields.i16_at d.now 0) found.entry }
 {
-    Some(i16_at(found?.body, 0))
+    Some(i16_at(found?, 0))
 }
 
-/// The number in a record of four bytes.
-fn long(found: Option<Record<'_>>) -> Option<i32>
-    requires { ForSome found (λ r. 4 ≤ length r.body.now) }
-    ensures { result ≡ option_map (λ r. fields.i32_at r.body.now 0) found.entry }
+/// The number in the four bytes of a record that may be missing.
+fn long(found: Option<&[u8]>) -> Option<i32>
+    requires { ForSome found (λ d. 4 ≤ length d.now) }
+    ensures { result ≡ option_map (λ d. fields.i32_at d.now 0) found.entry }
 {
-    Some(i32_at(found?.body, 0))
+    Some(i32_at(found?, 0))
 }
 
-/// The real in a record of eight bytes.
-fn real(found: Option<Record<'_>>) -> Option<[u8; 8]>
-    requires { ForSome found (λ r. 8 ≤ length r.body.now) }
-    ensures { result ≡ option_map (λ r. fields.real_at r.body.now 0) found.entry }
+/// The real in the eight bytes of a record that may be missing.
+fn real(found: Option<&[u8]>) -> Option<[u8; 8]>
+    requires { ForSome found (λ d. 8 ≤ length d.now) }
+    ensures { result ≡ option_map (λ d. fields.real_at d.now 0) found.entry }
 {
-    Some(real_at(found?.body, 0))
-}
-
-impl TransRecords<'_> {
-    /// The transformation, where there is STRANS.
-    fn trans(&self) -> Option<Trans>
-        requires { IsSizedTrans self.now }
-        ensures { option_map trans_seen result ≡ trans_of (pick (trans_records_seen self.now)) }
-    {
-        Some(Trans {
-            strans: u16_at(self.strans?.body, 0),
-            mag: real(self.mag),
-            angle: real(self.angle),
-        })
-    }
+    Some(real_at(found?, 0))
 }
 
 impl<'a> Reader<'a> {
@@ -77,26 +65,56 @@ impl<'a> Reader<'a> {
         Ok(())
     }
 
-    /// The records of a transformation, or none.
-    fn take_trans(&mut self) -> Result<TransRecords<'a>, SyntaxFault>
-        ensures exact { Answers (λ t. (trans_records_seen t, self.new.at)) result (item_at self.old.bytes.now transformed self.old.at) }
-        ensures sized { IfOk result (λ t. IsSizedTrans t) }
+    /// The transformation of a reference, where there is STRANS. MAG and ANGLE may be missing behind it.
+    fn take_trans(&mut self) -> Result<Option<Trans>, SyntaxFault>
+        ensures ok { IfOk result (λ t. IsTransformed self.old.bytes.now self.old.at (option_map trans_seen t) self.new.at) }
+        ensures err { IfErr result (λ e. Refuses (λ f. item_at self.old.bytes.now transformed self.old.at ≡ Err f) e) }
         ensures on { self.old.at ≤ self.new.at }
         ensures bytes { self.new.bytes ≡ self.old.bytes }
     {
-        let Some(strans) = self.take_if(kinds::STRANS)? else {
-            return Ok(TransRecords {
-                strans: None,
-                mag: None,
-                angle: None,
-            });
+        let Some(strans) = self.take_data_if(kinds::STRANS)? else {
+            return Ok(None);
         };
-        let mag = self.take_if(kinds::MAG)?;
-        let angle = self.take_if(kinds::ANGLE)?;
-        Ok(TransRecords {
-            strans: Some(strans),
-            mag,
-            angle,
+        let mag = self.take_data_if(kinds::MAG)?;
+        let angle = self.take_data_if(kinds::ANGLE)?;
+        Ok(Some(Trans {
+            strans: u16_at(strans, 0),
+            mag: real(mag),
+            angle: real(angle),
+        }))
+    }
+
+    /// What a TEXT has between its type and its point: PRESENTATION, PATHTYPE, WIDTH and a transformation, each of which may
+    /// be missing. What they say is not kept.
+    fn take_style(&mut self) -> Result<(), SyntaxFault>
+        ensures ok { OnOk result (IsStyled self.old.bytes.now self.old.at self.new.at) }
+        ensures err { IfErr result (λ e. Refuses (λ f. items_at self.old.bytes.now style self.old.at ≡ Err f) e) }
+        ensures on { self.old.at ≤ self.new.at }
+        ensures bytes { self.new.bytes ≡ self.old.bytes }
+    {
+        self.take_if(kinds::PRESENTATION)?;
+        self.take_if(kinds::PATHTYPE)?;
+        self.take_if(kinds::WIDTH)?;
+        self.take_trans()?;
+        Ok(())
+    }
+
+    /// LAYER, a record of this type, and XY.
+    fn take_shape(&mut self, kind: u8) -> Result<Shape<'a>, SyntaxFault>
+        ensures ok { IfOk result (λ s. IsShaped self.old.bytes.now kind self.old.at s.layer s.number.now s.xy.now self.new.at) }
+        ensures err { IfErr result (λ e. Refuses (λ f. items_at self.old.bytes.now (shape kind) self.old.at ≡ Err f) e) }
+        ensures sized { IfOk result (λ s. IsSizeOf kind (length s.number.now)) }
+        ensures points { IfOk result (λ s. IsSizeOf format.xy (length s.xy.now)) }
+        ensures on { self.old.at ≤ self.new.at }
+        ensures bytes { self.new.bytes ≡ self.old.bytes }
+    {
+        let layer = self.take_data(kinds::LAYER)?;
+        let number = self.take_data(kind)?;
+        let xy = self.take_data(kinds::XY)?;
+        Ok(Shape {
+            layer: u16_at(layer, 0),
+            number,
+            xy,
         })
     }
 
@@ -107,13 +125,11 @@ impl<'a> Reader<'a> {
         ensures on { self.old.at ≤ self.new.at }
         ensures bytes { self.new.bytes ≡ self.old.bytes }
     {
-        let layer = self.take(kinds::LAYER)?;
-        let datatype = self.take(kinds::DATATYPE)?;
-        let xy = self.take(kinds::XY)?;
+        let shape = self.take_shape(kinds::DATATYPE)?;
         Ok(Body::Boundary {
-            layer: u16_at(layer.body, 0),
-            datatype: u16_at(datatype.body, 0),
-            xy: xy.body,
+            layer: shape.layer,
+            datatype: u16_at(shape.number, 0),
+            xy: shape.xy,
         })
     }
 
@@ -124,21 +140,21 @@ impl<'a> Reader<'a> {
         ensures on { self.old.at ≤ self.new.at }
         ensures bytes { self.new.bytes ≡ self.old.bytes }
     {
-        let layer = self.take(kinds::LAYER)?;
-        let datatype = self.take(kinds::DATATYPE)?;
-        let kind = self.take_if(kinds::PATHTYPE)?;
-        let width = self.take_if(kinds::WIDTH)?;
-        let begin_ext = self.take_if(kinds::BGNEXTN)?;
-        let end_ext = self.take_if(kinds::ENDEXTN)?;
-        let xy = self.take(kinds::XY)?;
+        let layer = self.take_data(kinds::LAYER)?;
+        let datatype = self.take_data(kinds::DATATYPE)?;
+        let kind = self.take_data_if(kinds::PATHTYPE)?;
+        let width = self.take_data_if(kinds::WIDTH)?;
+        let begin_ext = self.take_data_if(kinds::BGNEXTN)?;
+        let end_ext = self.take_data_if(kinds::ENDEXTN)?;
+        let xy = self.take_data(kinds::XY)?;
         Ok(Body::Path {
-            layer: u16_at(layer.body, 0),
-            datatype: u16_at(datatype.body, 0),
+            layer: u16_at(layer, 0),
+            datatype: u16_at(datatype, 0),
             kind: short(kind),
             width: long(width),
             begin_ext: long(begin_ext),
             end_ext: long(end_ext),
-            xy: xy.body,
+            xy,
         })
     }
 
@@ -152,11 +168,7 @@ impl<'a> Reader<'a> {
         let name = self.take_name()?;
         let trans = self.take_trans()?;
         let xy = self.take_points(8)?;
-        Ok(Body::Sref {
-            name: name_of(name.body),
-            trans: trans.trans(),
-            xy: xy.body,
-        })
+        Ok(Body::Sref { name, trans, xy })
     }
 
     /// The body of an AREF behind its flags.
@@ -168,14 +180,14 @@ impl<'a> Reader<'a> {
     {
         let name = self.take_name()?;
         let trans = self.take_trans()?;
-        let colrow = self.take(kinds::COLROW)?;
+        let colrow = self.take_data(kinds::COLROW)?;
         let xy = self.take_points(24)?;
         Ok(Body::Aref {
-            name: name_of(name.body),
-            trans: trans.trans(),
-            columns: i16_at(colrow.body, 0),
-            rows: i16_at(colrow.body, 2),
-            xy: xy.body,
+            name,
+            trans,
+            columns: i16_at(colrow, 0),
+            rows: i16_at(colrow, 2),
+            xy,
         })
     }
 
@@ -186,19 +198,16 @@ impl<'a> Reader<'a> {
         ensures on { self.old.at ≤ self.new.at }
         ensures bytes { self.new.bytes ≡ self.old.bytes }
     {
-        let layer = self.take(kinds::LAYER)?;
-        let texttype = self.take(kinds::TEXTTYPE)?;
-        let _presentation = self.take_if(kinds::PRESENTATION)?;
-        let _pathtype = self.take_if(kinds::PATHTYPE)?;
-        let _width = self.take_if(kinds::WIDTH)?;
-        let _trans = self.take_trans()?;
+        let layer = self.take_data(kinds::LAYER)?;
+        let texttype = self.take_data(kinds::TEXTTYPE)?;
+        self.take_style()?;
         let xy = self.take_points(8)?;
-        let string = self.take(kinds::STRING)?;
+        let string = self.take_data(kinds::STRING)?;
         Ok(Body::Text {
-            layer: u16_at(layer.body, 0),
-            texttype: i16_at(texttype.body, 0),
-            xy: xy.body,
-            string: string.body,
+            layer: u16_at(layer, 0),
+            texttype: i16_at(texttype, 0),
+            xy,
+            string,
         })
     }
 
@@ -209,13 +218,11 @@ impl<'a> Reader<'a> {
         ensures on { self.old.at ≤ self.new.at }
         ensures bytes { self.new.bytes ≡ self.old.bytes }
     {
-        let layer = self.take(kinds::LAYER)?;
-        let nodetype = self.take(kinds::NODETYPE)?;
-        let xy = self.take(kinds::XY)?;
+        let shape = self.take_shape(kinds::NODETYPE)?;
         Ok(Body::Node {
-            layer: u16_at(layer.body, 0),
-            nodetype: i16_at(nodetype.body, 0),
-            xy: xy.body,
+            layer: shape.layer,
+            nodetype: i16_at(shape.number, 0),
+            xy: shape.xy,
         })
     }
 
@@ -226,13 +233,11 @@ impl<'a> Reader<'a> {
         ensures on { self.old.at ≤ self.new.at }
         ensures bytes { self.new.bytes ≡ self.old.bytes }
     {
-        let layer = self.take(kinds::LAYER)?;
-        let boxtype = self.take(kinds::BOXTYPE)?;
-        let xy = self.take(kinds::XY)?;
+        let shape = self.take_shape(kinds::BOXTYPE)?;
         Ok(Body::BoxShape {
-            layer: u16_at(layer.body, 0),
-            boxtype: u16_at(boxtype.body, 0),
-            xy: xy.body,
+            layer: shape.layer,
+            boxtype: u16_at(shape.number, 0),
+            xy: shape.xy,
         })
     }
 

@@ -6,7 +6,7 @@ ghost use Rattle.dpl_spec_format.specs.Records.{record_at};
 ghost use Rattle.dpl_records.specs.Seen.{seen};
 ghost use Rattle.dpl_syntax.specs.Elements.{element_seen, IsSized};
 ghost use Rattle.dpl_syntax.specs.Outcome.{Refuses};
-ghost use Rattle.dpl_syntax.specs.Passing.{Passes, Fails, same, properties_end, property_first, endel_first, AreProperties, IsEnd, element_then, IsElement, IsNextElement, IsNoElement, IsTakenElement, class_first, elements_first, endstr_first, AreElements};
+ghost use Rattle.dpl_syntax.specs.Passing.{Passes, Fails, same, properties_end, property_first, endel_first, AreProperties, IsEnd, element_then, IsElement, IsNextElement, IsNoElement, IsTakenElement, class_first, elements_first, AreElements, AreTakenElements};
 
 use crate::element::Element;
 use crate::fault::SyntaxFault;
@@ -103,7 +103,7 @@ impl<'a> Reader<'a> {
     }
 
     /// The records between the name of a structure and its first element.
-    pub(crate) fn skip_class(&mut self) -> Result<(), SyntaxFault>
+    fn skip_class(&mut self) -> Result<(), SyntaxFault>
         ensures ok { OnOk result (Passes self.old.bytes.now class_first elements_first (AreElements []) self.old.at self.new.at) }
         ensures err { IfErr result (λ e. Refuses (Fails self.old.bytes.now class_first self.old.at) e) }
         ensures on { self.old.at ≤ self.new.at }
@@ -111,6 +111,23 @@ impl<'a> Reader<'a> {
     {
         while let Some(_) = self.take_if(kinds::STRCLASS)? {}
         Ok(())
+    }
+
+    /// The next element, whatever it has, if the next record begins one. Else that stays the next.
+    fn next_of_any_form(&mut self) -> Result<Option<Element<'a>>, SyntaxFault>
+        ensures some { IfOk result (λ o. IfSome o (λ e. IsTakenElement self.old.bytes.now self.old.at (element_seen e) self.new.at)) }
+        ensures none { IfOk result (λ o. IfNone o (IsNoElement self.old.bytes.now self.old.at × (self.new.at ≡ self.old.at))) }
+        ensures err { IfErr result (λ e. Refuses (Fails self.old.bytes.now elements_first self.old.at) e) }
+        ensures sized { IfOk result (λ o. IfSome o (λ e. IsSized e)) }
+        ensures further { IfOk result (λ o. IfSome o (λ _. self.old.at < self.new.at)) }
+        ensures on { self.old.at ≤ self.new.at }
+        ensures bytes { self.new.bytes ≡ self.old.bytes }
+    {
+        let Some(first) = self.peek_element()? else {
+            return Ok(None);
+        };
+        let element = self.element(first)?;
+        Ok(Some(element))
     }
 
     /// The next element, if the next record begins one. Else that stays the next.
@@ -123,28 +140,39 @@ impl<'a> Reader<'a> {
         ensures on { self.old.at ≤ self.new.at }
         ensures bytes { self.new.bytes ≡ self.old.bytes }
     {
-        if let Some(plain) = self.take_plain() {
-            return Ok(Some(plain));
+        match self.take_plain() {
+            Some(plain) => Ok(Some(plain)),
+            None => self.next_of_any_form(),
         }
-        let Some(first) = self.peek_element()? else {
-            return Ok(None);
-        };
-        let element = self.element(first)?;
-        Ok(Some(element))
     }
 
-    /// The elements of a structure.
+    /// Adds the elements of a structure, from behind its name on, and reads its ENDSTR.
+    fn add_elements(&mut self, elements: &mut Vec<Element<'a>>) -> Result<(), SyntaxFault>
+        requires none { elements.old.items ≡ [] }
+        ensures ok { OnOk result (AreTakenElements self.old.bytes.now (map element_seen elements.new.items) self.old.at self.new.at) }
+        ensures err { IfErr result (λ e. Refuses (Fails self.old.bytes.now class_first self.old.at) e) }
+        ensures sized { OnOk result (All IsSized elements.new.items) }
+        ensures on { self.old.at ≤ self.new.at }
+        ensures bytes { self.new.bytes ≡ self.old.bytes }
+    {
+        self.skip_class()?;
+        while let Some(element) = self.next_element()? {
+            elements.push(element)?;
+        }
+        self.take(kinds::ENDSTR)?;
+        Ok(())
+    }
+
+    /// The elements of a structure, from behind its name on. Its ENDSTR is read too.
     pub(crate) fn elements(&mut self, alloc: Global) -> Result<Vec<Element<'a>>, SyntaxFault>
-        ensures ok { IfOk result (λ v. Passes self.old.bytes.now elements_first endstr_first (AreElements (map element_seen v.items)) self.old.at self.new.at) }
-        ensures err { IfErr result (λ e. Refuses (Fails self.old.bytes.now elements_first self.old.at) e) }
+        ensures ok { IfOk result (λ v. AreTakenElements self.old.bytes.now (map element_seen v.items) self.old.at self.new.at) }
+        ensures err { IfErr result (λ e. Refuses (Fails self.old.bytes.now class_first self.old.at) e) }
         ensures sized { IfOk result (λ v. All IsSized v.items) }
         ensures on { self.old.at ≤ self.new.at }
         ensures bytes { self.new.bytes ≡ self.old.bytes }
     {
         let mut elements = Vec::new(alloc);
-        while let Some(element) = self.next_element()? {
-            elements.push(element)?;
-        }
+        self.add_elements(&mut elements)?;
         Ok(elements)
     }
 }

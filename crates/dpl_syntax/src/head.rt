@@ -1,11 +1,12 @@
 //! Reading the head of a library.
 
-ghost use Rattle.std.specs.Prelude.{◌≡◌, ◌<◌, ◌≤◌, true, length, IfOk, IfErr, OnOk, IfSome, IfNone, Err};
+ghost use Rattle.std.specs.Prelude.{◌≡◌, ◌<◌, true, IfOk, IfErr, OnOk, IfSome, IfNone, Err};
 ghost use Rattle.dpl_spec_format.specs.Kinds as format;
 ghost use Rattle.dpl_spec_format.specs.Records.{record_at};
 ghost use Rattle.dpl_records.specs.Seen.{seen};
 ghost use Rattle.dpl_syntax.specs.Outcome.{Refuses};
-ghost use Rattle.dpl_syntax.specs.Passing.{PassesSkips, FailsSkips, skips_then, same, part_then, PassesPart, is_part, IsNextSkipped, IsNoneSkipped};
+ghost use Rattle.dpl_syntax.specs.Passing.{PassesSkips, FailsSkips, skips_then, same, part_then, is_part, IsNextSkipped, IsNoneSkipped, IsTakenWhole, IsTakenPart};
+ghost use Rattle.dpl_syntax.specs.Reading.{take};
 
 use crate::fault::SyntaxFault;
 use crate::reader::Reader;
@@ -48,16 +49,25 @@ impl<'a> Reader<'a> {
         Ok(())
     }
 
-    /// A record of this type, and those that are passed over behind it.
-    pub(crate) fn take_part(&mut self, kind: u8) -> Result<Record<'a>, SyntaxFault>
-        requires { is_part kind ≡ true }
-        ensures ok { IfOk result (λ r. PassesPart self.old.bytes.now kind (seen r) self.old.at self.new.at) }
-        ensures err { IfErr result (λ e. Refuses (FailsSkips self.old.bytes.now (part_then kind) self.old.at) e) }
-        ensures within { IfOk result (λ r. (r.at ≤ r.next) × (r.next ≤ length self.old.bytes.now)) }
+    /// The bytes of the next record, which has to be of this type.
+    pub(crate) fn take_whole(&mut self, kind: u8) -> Result<&'a [u8], SyntaxFault>
+        ensures ok { IfOk result (λ whole. IsTakenWhole self.old.bytes.now kind whole.now self.old.at self.new.at) }
+        ensures err { IfErr result (λ e. Refuses (λ f. take self.old.bytes.now kind self.old.at ≡ Err f) e) }
         ensures bytes { self.new.bytes ≡ self.old.bytes }
     {
         let record = self.take(kind)?;
+        Ok(self.whole(&record))
+    }
+
+    /// The bytes of a record of this type. Those behind it that are passed over are read too.
+    pub(crate) fn take_part(&mut self, kind: u8) -> Result<&'a [u8], SyntaxFault>
+        requires { is_part kind ≡ true }
+        ensures ok { IfOk result (λ part. IsTakenPart self.old.bytes.now kind part.now self.old.at self.new.at) }
+        ensures err { IfErr result (λ e. Refuses (FailsSkips self.old.bytes.now (part_then kind) self.old.at) e) }
+        ensures bytes { self.new.bytes ≡ self.old.bytes }
+    {
+        let part = self.take_whole(kind)?;
         self.skip()?;
-        Ok(record)
+        Ok(part)
     }
 }

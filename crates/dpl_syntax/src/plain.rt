@@ -1,5 +1,5 @@
 //! Reading boundaries without flags and properties, which most elements of large files are.
-#![tactic(auto, unfolding(dpl_spec_format::specs::Table::form_of, dpl_spec_format::specs::Table::table))]
+#![tactic(auto)]
 
 ghost use Rattle.std.specs.Prelude.{◌≡◌, ◌<◌, ◌≤◌, length, IfSome, IfNone, Ok};
 ghost use Rattle.dpl_spec_format.specs.Records.{record_at};

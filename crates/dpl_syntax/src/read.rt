@@ -1,6 +1,6 @@
 //! Reading a library.
 
-ghost use Rattle.std.specs.Prelude.{◌≡◌, ◌≤◌, length, IfOk, IfErr};
+ghost use Rattle.std.specs.Prelude.{◌≤◌, length, IfOk, IfErr};
 ghost use Rattle.dpl_spec_format.specs.Faults.{Fault};
 ghost use Rattle.dpl_spec_format.specs.Tree.{Library as Tree};
 ghost use Rattle.dpl_spec_format.specs.Layout.{Holds, IsFirstFault};
@@ -35,17 +35,16 @@ fn library(alloc: Global, bytes: &[u8]) -> Result<Library<'_>, SyntaxFault>
     ensures fault { IfErr result (λ e. Refuses (IsFirstFault bytes.now) e) }
 {
     let mut reader = Reader { bytes, at: 0 };
-    let header = reader.take(kinds::HEADER)?;
+    let header = reader.take_whole(kinds::HEADER)?;
     let bgnlib = reader.take_part(kinds::BGNLIB)?;
     let libname = reader.take_part(kinds::LIBNAME)?;
     let units = reader.take_part(kinds::UNITS)?;
     let structures = reader.structures(alloc)?;
-    reader.take(kinds::ENDLIB)?;
     Ok(Library {
-        header: reader.whole(&header),
-        bgnlib: reader.whole(&bgnlib),
-        libname: reader.whole(&libname),
-        units: reader.whole(&units),
+        header,
+        bgnlib,
+        libname,
+        units,
         structures,
     })
 }

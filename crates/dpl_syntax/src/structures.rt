@@ -1,19 +1,18 @@
 //! Reading structures.
 
-ghost use Rattle.std.specs.Prelude.{◌≡◌, ◌<◌, ◌≤◌, ◌+◌, ◌*◌, ◌++◌, ◌∷◌, false, [], length, nat_eq, All, IfOk, IfErr, OnOk, IfSome, IfNone, Err};
+ghost use Rattle.std.specs.Prelude.{◌≡◌, ◌<◌, ◌≤◌, ◌+◌, ◌*◌, ◌++◌, ◌∷◌, false, [], length, nat_eq, IfOk, IfErr, OnOk};
 ghost use Rattle.std.specs.List.{list_any};
 ghost use Rattle.indexmap.specs.IndexMap.{index_map_len};
 ghost use Rattle.std.specs.Cmp.Lexicographic.{pointwise};
 ghost use Rattle.dpl_spec_format.specs.Fields as fields;
 ghost use Rattle.dpl_spec_format.specs.Kinds as format;
-ghost use Rattle.dpl_spec_format.specs.Records.{record_at};
 ghost use Rattle.dpl_spec_format.specs.Tree as tree;
 ghost use Rattle.dpl_records.specs.Seen.{seen};
 ghost use Rattle.dpl_syntax.specs.declared.fault.SyntaxFault.TheVariants.{NoMemory};
-ghost use Rattle.dpl_syntax.specs.Elements.{IsSized};
-ghost use Rattle.dpl_syntax.specs.Libraries.{structure_seen, structures_seen, known_names, IsSizedEach};
+ghost use Rattle.dpl_syntax.specs.Libraries.{structures_seen, known_names, IsSizedEach};
 ghost use Rattle.dpl_syntax.specs.Outcome.{Refuses};
-ghost use Rattle.dpl_syntax.specs.Passing.{IsNext, IsOther, IsStructure, PassesNamed, FailsNamed, structure_then, same, structures_first, endlib_first, AreStructures};
+ghost use Rattle.dpl_syntax.specs.Passing.{IsNext, FailsNamed, structure_then, structures_first, AreTakenStructures};
+ghost use Rattle.dpl_syntax.specs.Adding.{IsAdded};
 ghost use Rattle.dpl_syntax.specs.Reading.{Answers, take_strname};
 
 use crate::fault::SyntaxFault;
@@ -31,20 +30,6 @@ impl<'a> Reader<'a> {
         ensures { result.now ≡ tree.whole self.now.bytes.now (seen record.now) }
     {
         &self.bytes[record.at..record.next]
-    }
-
-    /// The next record, which stays the next, if it is of this type.
-    fn peek_if(&self, kind: u8) -> Result<Option<Record<'a>>, SyntaxFault>
-        ensures some { IfOk result (λ o. IfSome o (λ r. IsNext self.now.bytes.now self.now.at kind (seen r))) }
-        ensures none { IfOk result (λ o. IfNone o (IsOther self.now.bytes.now self.now.at kind)) }
-        ensures err { IfErr result (λ e. Refuses (λ f. record_at self.now.bytes.now self.now.at ≡ Err f) e) }
-    {
-        let record = self.peek()?;
-        if record.kind == kind {
-            Ok(Some(record))
-        } else {
-            Ok(None)
-        }
     }
 
     /// The STRNAME of a structure, whose name is a new one and isn't empty.
@@ -70,52 +55,66 @@ impl<'a> Reader<'a> {
         Ok(record)
     }
 
-    /// The name of the structure whose BGNSTR is the next record, and the structure.
-    fn structure(
+    /// Adds the structure of this BGNSTR, behind which reading has come.
+    fn add_structure(
         &mut self,
         alloc: Global,
         bgnstr: Record<'a>,
-        known: &IndexMap<&'a [u8], Structure<'a>>,
-    ) -> Result<(&'a [u8], Structure<'a>), SyntaxFault>
-        requires next { IsNext self.old.bytes.now self.old.at format.bgnstr (seen bgnstr) }
-        ensures ok { IfOk result (λ s. PassesNamed self.old.bytes.now (known_names known.now.entries) structure_then same (IsStructure self.old.bytes.now (structure_seen s.0.now s.1)) self.old.at self.new.at) }
-        ensures err { IfErr result (λ e. Refuses (FailsNamed self.old.bytes.now (known_names known.now.entries) structure_then self.old.at) e) }
-        ensures unknown { IfOk result (λ s. list_any (pointwise nat_eq s.0.now) (known_names known.now.entries) ≡ false) }
-        ensures sized { IfOk result (λ s. All IsSized s.1.elements.items) }
+        structures: &mut IndexMap<&'a [u8], Structure<'a>>,
+    ) -> Result<(), SyntaxFault>
+        requires next { IsNext self.old.bytes.now bgnstr.at format.bgnstr (seen bgnstr) }
+        requires behind { self.old.at ≡ bgnstr.next }
+        ensures ok { OnOk result (IsAdded self.old.bytes.now structures.old.entries structures.new.entries bgnstr.entry.at self.new.at) }
+        ensures err { IfErr result (λ e. Refuses (FailsNamed self.old.bytes.now (known_names structures.old.entries) structure_then bgnstr.entry.at) e) }
+        ensures len { OnOk result (index_map_len structures.new ≤ index_map_len structures.old + 1) }
         ensures further { OnOk result (self.old.at + 4 ≤ self.new.at) }
-        ensures on { self.old.at ≤ self.new.at }
         ensures bytes { self.new.bytes ≡ self.old.bytes }
     {
-        self.at = bgnstr.next;
-        let strname = self.take_strname(known)?;
-        self.skip_class()?;
+        let strname = self.take_strname(structures)?;
         let elements = self.elements(alloc)?;
-        self.take(kinds::ENDSTR)?;
         let structure = Structure {
             at: bgnstr.at,
             bgnstr: self.whole(&bgnstr),
             strname: self.whole(&strname),
             elements,
         };
-        Ok((name_of(strname.body), structure))
+        add(structures, name_of(strname.body), structure)
     }
 
-    /// The structures of a library, by name.
+    /// Adds the structures of a library, and reads its ENDLIB.
+    fn add_structures(
+        &mut self,
+        alloc: Global,
+        structures: &mut IndexMap<&'a [u8], Structure<'a>>,
+    ) -> Result<(), SyntaxFault>
+        requires none { structures.old.entries ≡ [] }
+        requires empty { index_map_len structures.old ≡ 0 }
+        ensures ok { OnOk result (AreTakenStructures self.old.bytes.now (structures_seen structures.new.entries) self.old.at) }
+        ensures err { IfErr result (λ e. Refuses (FailsNamed self.old.bytes.now [] structures_first self.old.at) e) }
+        ensures sized { OnOk result (IsSizedEach structures.new.entries) }
+        ensures few { OnOk result (4 * index_map_len structures.new ≤ self.new.at) }
+        ensures bytes { self.new.bytes ≡ self.old.bytes }
+    {
+        while let Some(bgnstr) = self.take_if(kinds::BGNSTR)? {
+            self.add_structure(alloc, bgnstr, structures)?;
+        }
+        self.take(kinds::ENDLIB)?;
+        Ok(())
+    }
+
+    /// The structures of a library, by name. Its ENDLIB is read too.
     pub(crate) fn structures(
         &mut self,
         alloc: Global,
     ) -> Result<IndexMap<&'a [u8], Structure<'a>>, SyntaxFault>
-        ensures ok { IfOk result (λ m. PassesNamed self.old.bytes.now [] structures_first endlib_first (AreStructures self.old.bytes.now (structures_seen m.entries)) self.old.at self.new.at) }
+        ensures ok { IfOk result (λ m. AreTakenStructures self.old.bytes.now (structures_seen m.entries) self.old.at) }
         ensures err { IfErr result (λ e. Refuses (FailsNamed self.old.bytes.now [] structures_first self.old.at) e) }
         ensures sized { IfOk result (λ m. IsSizedEach m.entries) }
         ensures few { IfOk result (λ m. 4 * index_map_len m ≤ self.new.at) }
         ensures bytes { self.new.bytes ≡ self.old.bytes }
     {
         let mut structures = IndexMap::new(alloc);
-        while let Some(bgnstr) = self.peek_if(kinds::BGNSTR)? {
-            let (name, structure) = self.structure(alloc, bgnstr, &structures)?;
-            add(&mut structures, name, structure)?;
-        }
+        self.add_structures(alloc, &mut structures)?;
         Ok(structures)
     }
 }

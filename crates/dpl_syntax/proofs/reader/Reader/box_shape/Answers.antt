@@ -1,36 +1,32 @@
-use Rattle.std.proofs.Common.{◌∙◌, le_trans}
+use Rattle.std.proofs.Common.{◌≡◌, Err}
 use Rattle.std.proofs.lemmas.Result.{err_from_is_err_and}
+use Rattle.dpl_spec_format.specs.Kinds as kinds
+use Rattle.dpl_syntax.specs.Reading as reading
+use Rattle.dpl_syntax.specs.Shapes.{shape}
+use Rattle.dpl_syntax.proofs.Chains.{body_then, body_fails}
+use Rattle.dpl_syntax.proofs.Refusals.{refuses}
+use Rattle.dpl_syntax.proofs.Sizes.{boxtype_size, points_size}
 use Rattle.dpl_syntax.proofs.reader.Reader.box_shape.Goals as goal
 
-pub returns-in_err-layer-clause-points : goal.returns-in_err-layer-clause-points
-returns-in_err-layer-clause-points c = rw (err_from_is_err_and c.from_residual.result c.from_residual.ensures.1).1 tt
+pub returns-in_err-shape-clause-exact : goal.returns-in_err-shape-clause-exact
+returns-in_err-shape-clause-exact c =
+    let p = err_from_is_err_and c.from_residual.result c.from_residual.ensures.1 in
+    let bytes = c.args.self.now.bytes.now in
+    let at = c.args.self.now.at in
+    rw (p.1, p.2) (refuses (λ f. reading.items_at bytes (shape kinds.boxtype) at ≡ Err f) (λ f. reading.body_behind_flags bytes kinds.box at ≡ Err f)
+    c.in_err-shape.field-0.0 (λ f h. body_fails bytes kinds.box at f h) c.in_err-shape.ensures.err)
 
-pub returns-in_err-layer-clause-on : goal.returns-in_err-layer-clause-on
-returns-in_err-layer-clause-on c = c.in_err-layer.ensures.on
+pub returns-in_err-shape-clause-points : goal.returns-in_err-shape-clause-points
+returns-in_err-shape-clause-points c = rw (err_from_is_err_and c.from_residual.result c.from_residual.ensures.1).1 tt
 
-pub returns-in_err-layer-clause-bytes : goal.returns-in_err-layer-clause-bytes
-returns-in_err-layer-clause-bytes c = c.in_err-layer.ensures.bytes
+pub u16_at-requires : goal.u16_at-requires
+u16_at-requires c = boxtype_size _ c.in_ok-shape.ensures.sized
 
-pub returns-in_err-boxtype-clause-points : goal.returns-in_err-boxtype-clause-points
-returns-in_err-boxtype-clause-points c = rw (err_from_is_err_and c.from_residual-in_err-boxtype.result c.from_residual-in_err-boxtype.ensures.1).1 tt
+pub returns-clause-exact : goal.returns-clause-exact
+returns-clause-exact c =
+    let w = c.in_ok-shape.ensures.ok in
+    let found = body_then c.args.self.now.bytes.now kinds.box c.args.self.now.at c.take_shape.new.self.at _ w.fills in
+    rw (c.u16_at.ensures, w.layer_is, w.number_is, w.xy_is) found
 
-pub returns-in_err-boxtype-clause-on : goal.returns-in_err-boxtype-clause-on
-returns-in_err-boxtype-clause-on c = le_trans c.in_ok-layer.ensures.on c.in_err-boxtype.ensures.on
-
-pub returns-in_err-boxtype-clause-bytes : goal.returns-in_err-boxtype-clause-bytes
-returns-in_err-boxtype-clause-bytes c = c.in_err-boxtype.ensures.bytes ∙ c.in_ok-layer.ensures.bytes
-
-pub returns-in_err-xy-clause-points : goal.returns-in_err-xy-clause-points
-returns-in_err-xy-clause-points c = rw (err_from_is_err_and c.from_residual-in_err-xy.result c.from_residual-in_err-xy.ensures.1).1 tt
-
-pub returns-in_err-xy-clause-on : goal.returns-in_err-xy-clause-on
-returns-in_err-xy-clause-on c = le_trans c.in_ok-layer.ensures.on (le_trans c.in_ok-boxtype.ensures.on c.in_err-xy.ensures.on)
-
-pub returns-in_err-xy-clause-bytes : goal.returns-in_err-xy-clause-bytes
-returns-in_err-xy-clause-bytes c = c.in_err-xy.ensures.bytes ∙ c.in_ok-boxtype.ensures.bytes ∙ c.in_ok-layer.ensures.bytes
-
-pub returns-clause-on : goal.returns-clause-on
-returns-clause-on c = le_trans c.in_ok-layer.ensures.on (le_trans c.in_ok-boxtype.ensures.on c.in_ok-xy.ensures.on)
-
-pub returns-clause-bytes : goal.returns-clause-bytes
-returns-clause-bytes c = c.in_ok-xy.ensures.bytes ∙ c.in_ok-boxtype.ensures.bytes ∙ c.in_ok-layer.ensures.bytes
+pub returns-clause-points : goal.returns-clause-points
+returns-clause-points c = points_size _ c.in_ok-shape.ensures.points

@@ -1,36 +1,34 @@
-use Rattle.std.proofs.Common.{◌∙◌, le_trans}
+use Rattle.std.proofs.Common.{◌≡◌, Err, rules, w16, FitsSigned}
 use Rattle.std.proofs.lemmas.Result.{err_from_is_err_and}
+use Rattle.std.proofs.lemmas.Int.{to_z-of_z}
+use Rattle.dpl_spec_format.specs.Kinds as kinds
+use Rattle.dpl_syntax.specs.Reading as reading
+use Rattle.dpl_syntax.specs.Shapes.{shape}
+use Rattle.dpl_syntax.proofs.Chains.{body_then, body_fails}
+use Rattle.dpl_syntax.proofs.Refusals.{refuses}
+use Rattle.dpl_syntax.proofs.Sizes.{nodetype_size, points_size}
 use Rattle.dpl_syntax.proofs.reader.Reader.node.Goals as goal
 
-pub returns-in_err-layer-clause-points : goal.returns-in_err-layer-clause-points
-returns-in_err-layer-clause-points c = rw (err_from_is_err_and c.from_residual.result c.from_residual.ensures.1).1 tt
+pub returns-in_err-shape-clause-exact : goal.returns-in_err-shape-clause-exact
+returns-in_err-shape-clause-exact c =
+    let p = err_from_is_err_and c.from_residual.result c.from_residual.ensures.1 in
+    let bytes = c.args.self.now.bytes.now in
+    let at = c.args.self.now.at in
+    rw (p.1, p.2) (refuses (λ f. reading.items_at bytes (shape kinds.nodetype) at ≡ Err f) (λ f. reading.body_behind_flags bytes kinds.node at ≡ Err f)
+    c.in_err-shape.field-0.0 (λ f h. body_fails bytes kinds.node at f h) c.in_err-shape.ensures.err)
 
-pub returns-in_err-layer-clause-on : goal.returns-in_err-layer-clause-on
-returns-in_err-layer-clause-on c = c.in_err-layer.ensures.on
+pub returns-in_err-shape-clause-points : goal.returns-in_err-shape-clause-points
+returns-in_err-shape-clause-points c = rw (err_from_is_err_and c.from_residual.result c.from_residual.ensures.1).1 tt
 
-pub returns-in_err-layer-clause-bytes : goal.returns-in_err-layer-clause-bytes
-returns-in_err-layer-clause-bytes c = c.in_err-layer.ensures.bytes
+pub i16_at-requires : goal.i16_at-requires
+i16_at-requires c = nodetype_size _ c.in_ok-shape.ensures.sized
 
-pub returns-in_err-nodetype-clause-points : goal.returns-in_err-nodetype-clause-points
-returns-in_err-nodetype-clause-points c = rw (err_from_is_err_and c.from_residual-in_err-nodetype.result c.from_residual-in_err-nodetype.ensures.1).1 tt
+pub returns-clause-exact : goal.returns-clause-exact
+returns-clause-exact c =
+    let w = c.in_ok-shape.ensures.ok in
+    let found = body_then c.args.self.now.bytes.now kinds.node c.args.self.now.at c.take_shape.new.self.at _ w.fills in
+    let fits : FitsSigned w16 c.i16_at.result = search rules in
+    rw (to_z-of_z w16 c.i16_at.result fits, c.i16_at.ensures, w.layer_is, w.number_is, w.xy_is) found
 
-pub returns-in_err-nodetype-clause-on : goal.returns-in_err-nodetype-clause-on
-returns-in_err-nodetype-clause-on c = le_trans c.in_ok-layer.ensures.on c.in_err-nodetype.ensures.on
-
-pub returns-in_err-nodetype-clause-bytes : goal.returns-in_err-nodetype-clause-bytes
-returns-in_err-nodetype-clause-bytes c = c.in_err-nodetype.ensures.bytes ∙ c.in_ok-layer.ensures.bytes
-
-pub returns-in_err-xy-clause-points : goal.returns-in_err-xy-clause-points
-returns-in_err-xy-clause-points c = rw (err_from_is_err_and c.from_residual-in_err-xy.result c.from_residual-in_err-xy.ensures.1).1 tt
-
-pub returns-in_err-xy-clause-on : goal.returns-in_err-xy-clause-on
-returns-in_err-xy-clause-on c = le_trans c.in_ok-layer.ensures.on (le_trans c.in_ok-nodetype.ensures.on c.in_err-xy.ensures.on)
-
-pub returns-in_err-xy-clause-bytes : goal.returns-in_err-xy-clause-bytes
-returns-in_err-xy-clause-bytes c = c.in_err-xy.ensures.bytes ∙ c.in_ok-nodetype.ensures.bytes ∙ c.in_ok-layer.ensures.bytes
-
-pub returns-clause-on : goal.returns-clause-on
-returns-clause-on c = le_trans c.in_ok-layer.ensures.on (le_trans c.in_ok-nodetype.ensures.on c.in_ok-xy.ensures.on)
-
-pub returns-clause-bytes : goal.returns-clause-bytes
-returns-clause-bytes c = c.in_ok-xy.ensures.bytes ∙ c.in_ok-nodetype.ensures.bytes ∙ c.in_ok-layer.ensures.bytes
+pub returns-clause-points : goal.returns-clause-points
+returns-clause-points c = points_size _ c.in_ok-shape.ensures.points
