@@ -3,6 +3,7 @@ pub mod Sheets
 pub mod Conflicts
 pub mod Flat
 pub mod Cycles
+pub mod Lines
 pub mod Roots
 pub mod View
 pub mod Many

@@ -16,16 +16,16 @@ ghost use Rattle.dpl_answer.specs.Flat.{ArePaintedWithin, Fits, FitsClash, FitsP
 ghost use Rattle.dpl_cut.specs.Cutting.{HasPointKeys, OfAnyCut, OfCompleted};
 ghost use Rattle.dpl_answer.specs.View.{AreConflictsOf, clash_view, flat_view, painted_view};
 
-use crate::colours::{piece_colours, vertex_count};
+use crate::colours::vertex_count;
 use crate::conflicts::Conflicts;
 use crate::cycle::cycle_lines;
 use crate::decomposed::{Clash, Decomposed, Painted};
-use crate::gains::gains_by;
-use crate::lines::{head, piece_lines, stitch_lines};
+use crate::lines::head;
 use crate::marks::MarkSets;
+use crate::masks_told::masks_told;
 use dpl_base::{Edge, Id, Listed, Spacing};
 use dpl_cut::{BareLayerCut, LayerCut};
-use dpl_masks::{masks_by, stitches};
+use dpl_masks::masks_by;
 use dpl_odd::odd_cycle;
 use dpl_stars::Joined;
 use std::alloc::{AllocError, Global};
@@ -95,29 +95,15 @@ fn paint<R: Threads>(
 {
     let head = head(&cut, spacing, overlap);
     let LayerCut { pieces, .. } = cut;
-    let count = pieces.parts().items().len() as u64;
-    let colours = piece_colours(alloc, count, pieces.sides(), joined, marks, fewer)?;
-    let gains = gains_by(
-        alloc,
-        &pieces,
-        colours.items(),
-        joined,
-        marks,
-        spacing,
-        fewer,
-    )?;
-    let lines = piece_lines(alloc, colours.items(), &pieces)?;
-    let numbers = stitches(alloc, pieces.sides(), colours.items())?;
-    let stitches = stitch_lines(alloc, pieces.zones(), pieces.sides(), &numbers)?;
-    drop(numbers);
-    let masks = masks_by(rt, alloc, pieces, &colours, workers)?;
+    let told = masks_told(alloc, &pieces, joined, marks, spacing, fewer)?;
+    let masks = masks_by(rt, alloc, pieces, &told.colours, workers)?;
     Ok(Painted {
         a: masks.a,
         b: masks.b,
         head,
-        pieces: Listed::of(lines),
-        stitches: Listed::of(stitches),
-        gains,
+        pieces: told.lines.pieces,
+        stitches: told.lines.stitches,
+        gains: told.gains,
     })
 }
 

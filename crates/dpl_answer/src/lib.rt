@@ -12,6 +12,7 @@ mod job;
 mod lines;
 mod many;
 mod marks;
+mod masks_told;
 mod near;
 mod roots;
 mod vertices;

@@ -8,13 +8,22 @@ ghost use Rattle.dpl_orient.specs.Masks.{is_second};
 ghost use Rattle.dpl_cert.specs.Grammar.{IsHead, IsNumber, IsPiece, IsPlace, IsPoint, IsRule, IsStitch};
 ghost use Rattle.dpl_law_verdict.specs.Own.{head_of, piece_line, place_line, stitch_line};
 ghost use Rattle.dpl_cut.specs.Cutting.{OfAnyCut};
+ghost use Rattle.dpl_answer.specs.Lines.{AreMaskLines, FitMaskLines};
 
-use dpl_base::{Id, Spacing, Zone};
+use dpl_base::{Id, Listed, Spacing, Zone};
 use dpl_cert::{Head, Key, PieceLine, PlaceLine, StitchLine};
 use dpl_cut::LayerCut;
+use dpl_masks::stitches;
 use dpl_orient::Mask;
 use dpl_piece::Pieces;
 use std::alloc::{AllocError, Global};
+
+/// The lines of a certificate of masks that tell of pieces and of stitches.
+#[derive(Drop)]
+pub(crate) struct MaskLines {
+    pub(crate) pieces: Listed<PieceLine>,
+    pub(crate) stitches: Listed<StitchLine>,
+}
 
 /// The rules, and how many features, pieces and zones there are.
 pub fn head(cut: &LayerCut, spacing: Spacing, overlap: u32) -> Head
@@ -44,11 +53,7 @@ fn feature_count(cut: &LayerCut) -> u64
 }
 
 /// A line for each piece: its mask and its least square.
-pub(crate) fn piece_lines(
-    alloc: Global,
-    masks: &[Mask],
-    pieces: &Pieces,
-) -> Result<Vec<PieceLine>, AllocError>
+fn piece_lines(alloc: Global, masks: &[Mask], pieces: &Pieces) -> Result<Vec<PieceLine>, AllocError>
     requires each { length masks.now ≡ length pieces.now.parts }
     requires within { (p : Pt) → Contains pieces.now.keys p → IsPoint p }
     ensures lines { IfOk result (λ v. v.items ≡ map piece_line (zip (map is_second masks.now) pieces.now.keys)) }
@@ -75,7 +80,7 @@ pub(crate) fn is_b(mask: Mask) -> bool
 }
 
 /// A line for each stitch: its rectangle and the pieces on its sides.
-pub(crate) fn stitch_lines(
+fn stitch_lines(
     alloc: Global,
     zones: &[Zone],
     sides: &[(Id, Id)],
@@ -98,6 +103,28 @@ pub(crate) fn stitch_lines(
         })?;
     }
     Ok(lines)
+}
+
+/// A line for each piece, and one for each stitch between pieces on these masks.
+///
+/// The error: out of memory.
+pub(crate) fn mask_lines(
+    alloc: Global,
+    masks: &[Mask],
+    pieces: &Pieces,
+) -> Result<MaskLines, AllocError>
+    requires each { length masks.now ≡ length pieces.now.parts }
+    requires within { (p : Pt) → Contains pieces.now.keys p → IsPoint p }
+    ensures are { IfOk result (λ l. AreMaskLines pieces.now.zones pieces.now.sides pieces.now.keys (map is_second masks.now) l.pieces l.stitches) }
+    ensures fit { IfOk result (λ l. FitMaskLines l.pieces l.stitches) }
+{
+    let lines = piece_lines(alloc, masks, pieces)?;
+    let numbers = stitches(alloc, pieces.sides(), masks)?;
+    let stitches = stitch_lines(alloc, pieces.zones(), pieces.sides(), &numbers)?;
+    Ok(MaskLines {
+        pieces: Listed::of(lines),
+        stitches: Listed::of(stitches),
+    })
 }
 
 /// A line for each piece of a cycle: its number and its least square.

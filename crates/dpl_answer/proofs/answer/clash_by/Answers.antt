@@ -1,4 +1,4 @@
-use Rattle.std.proofs.Common.{◌∙◌, ◌<◌, ◌^◌, ap, length, map, rules, subst, sym, List}
+use Rattle.std.proofs.Common.{◌∙◌, ◌<◌, ◌^◌, ap, length, rules, subst, sym, List}
 use Rattle.std.proofs.lemmas.Result.{IfOk-from_err}
 use Rattle.std.specs.Option.{option_copied}
 use Rattle.std.specs.List.{AllByRecursion}
