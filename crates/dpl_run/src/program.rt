@@ -34,7 +34,7 @@ use std::thread::Threads;
 ///
 /// `check` reads the layout IN, the certificate CERT and, if it is one of masks, their file OUT, and says of masks of any tool whether they are right, and of an odd cycle whether it is there. `demo` splits a layout that is made up of two numbers. Both write nothing, and say one line.
 ///
-/// `batch` does for each LAYER what `split` does, with the files PREFIX.LAYER.gds and PREFIX.LAYER.cert: it reads IN once, and one pool of workers has the tiles of all layers. It writes the files in the order of the layers, and then says a line for each.
+/// `batch` does for each LAYER what `split` does, with the files PREFIX.LAYER.gds and PREFIX.LAYER.cert: it reads IN once, and one pool of workers has the tiles of all layers that have some. It writes the files in the order of the layers, and then says a line for each.
 ///
 /// `edit` reads the layout IN and, where that has the layer, the text EDITS (at most 268435456 bytes), which adds rectangles to the layer and takes rectangles away, a line for each. It does with the edited layer what `split` does with a layer, and writes the same files; where EDITS is refused it writes none, and says one line.
 ///

@@ -1,12 +1,13 @@
 //! A session: a layer that is edited, and its answer.
-ghost use Rattle.std.specs.Prelude.{◌≡◌, ℕ, ◌<◌, ◌≤◌, ◌∷◌, [], IfOk, OnOk, IsErr, List};
+ghost use Rattle.std.specs.Prelude.{◌≡◌, ℕ, ◌<◌, ◌≤◌, ◌∷◌, [], IfOk, OnOk, IsErr, List, length};
 ghost use Rattle.std.specs.List.{All};
 ghost use Rattle.dpl_spec_split.specs.declared.Rect.{Rect};
 ghost use Rattle.dpl_spec_split.specs.declared.Pt.{Pt};
+ghost use Rattle.dpl_spec_split.specs.Pieces.{Conflict};
 ghost use Rattle.dpl_spec_split.specs.Squares.{Covers};
 ghost use Rattle.dpl_spec_edits.specs.declared.Edit.TheVariants.{Add, Remove};
 ghost use Rattle.dpl_spec_edits.specs.Text.{IsEdit};
-ghost use Rattle.dpl_session.specs.Answered.{IsAnswerTo};
+ghost use Rattle.dpl_session.specs.Answered.{Decides, IsAnswerTo};
 ghost use Rattle.dpl_session.specs.Held.{EditsOneAfterAnother, IsEdited, IsOpened, TookFewDirty};
 ghost use Rattle.dpl_session.specs.Kept.{AreCells, AreKept, AreTilesOf, IsFresh, IsFreshIn};
 ghost use Rattle.dpl_session.specs.Windows.{AreWhole};
@@ -91,6 +92,40 @@ fn look_into<L: Ledger>(
     tiles_of(alloc, &index, cells, old, spacing, &mut first, steps)
 }
 
+/// The tiles of a cut layer, and what is told of its pieces.
+#[derive(Drop)]
+struct Settled {
+    tiles: Vec<Tile>,
+    verdict: Verdict,
+}
+
+/// Finds the tiles of a cut layer, and what is told of its pieces. The conflicts of tiles that are as one of the old tiles are taken from there.
+fn settle<L: Ledger>(
+    alloc: Global,
+    cut: &LayerCut,
+    cells: &Cells,
+    old: &[Tile],
+    spacing: Spacing,
+    steps: &mut Steps<L>,
+) -> Result<Settled, AllocError>
+    requires corner { spacing.corner ≤ spacing.rule }
+    requires whole { AreWhole cut.now.pieces.parts }
+    requires owners { All (λ k. k < cut.now.features) cut.now.pieces.owners }
+    requires kept { AreKept spacing old.now }
+    requires cells { (layer : List Rect) × AreCells (Covers layer) cells.now.side cells.now.cells.items × ((p : Pt) → union_of cut.now.pieces.parts p → Covers layer p) }
+    ensures tiles { IfOk result (λ s. (edges : List (ℕ × ℕ)) × AreTilesOf spacing cut.now.pieces.parts cut.now.pieces.owners cells.now.cells.items s.tiles.items edges) }
+    ensures decided { IfOk result (λ s. Decides (Conflict spacing cut.now.pieces.parts cut.now.pieces.owners) (length cut.now.pieces.parts) cut.now.pieces.sides s.verdict) }
+    ensures steps { TookFew (IsFresh spacing.rule old.now cells.now.side cut.now.pieces.parts cut.now.pieces.owners) steps.old steps.new }
+{
+    let found = look_into(alloc, cut, cells, old, spacing, steps)?;
+    let count = cut.pieces.parts().items().len() as Id;
+    let verdict = decide(alloc, count, cut.pieces.sides(), &found.edges)?;
+    Ok(Settled {
+        tiles: found.tiles,
+        verdict,
+    })
+}
+
 /// The session of a layer, with cells whose side is `tile`, doubled some number of times. The conflicts of tiles that are as one of the old tiles are taken from there.
 fn session_of<L: Ledger>(
     alloc: Global,
@@ -111,17 +146,15 @@ fn session_of<L: Ledger>(
     let unmarked = Slabs::empty(alloc);
     let cut = cut_within(alloc, &layer, spacing, overlap, &unmarked)?;
     let cells = cells_over(alloc, &layer, tile)?;
-    let found = look_into(alloc, &cut, &cells, old, spacing, steps)?;
-    let count = cut.pieces.parts().items().len() as Id;
-    let verdict = decide(alloc, count, cut.pieces.sides(), &found.edges)?;
+    let settled = settle(alloc, &cut, &cells, old, spacing, steps)?;
     Ok(Session {
         layer,
         spacing,
         overlap,
         side: cells.side,
         pieces: cut.pieces,
-        verdict,
-        tiles: found.tiles,
+        verdict: settled.verdict,
+        tiles: settled.tiles,
     })
 }
 

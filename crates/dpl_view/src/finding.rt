@@ -5,13 +5,12 @@ ghost use Rattle.dpl_layer.specs.View.{choice_view};
 ghost use Rattle.dpl_view.specs.Findings.{IsFinding, IsInRange};
 
 use crate::clashes::{Tangles, clashes_of};
-use dpl_answer::{Sharing, conflicts_of};
+use crate::conflicting::{Conflicting, cut_with_conflicts};
+use dpl_answer::Sharing;
 use dpl_base::Spacing;
 use dpl_cert::Name;
 use dpl_layer::{Layer, LayerChoice, LayerFault, layer_by};
 use dpl_pool::Gate;
-use dpl_slabs::Slabs;
-use dpl_wide::cut_by;
 use std::alloc::{AllocError, Global};
 use std::sync::Wait;
 use std::thread::Threads;
@@ -25,7 +24,7 @@ pub struct Order<'a> {
     pub rule: u32,
     /// How long a stitch is, 1 to 1,000,000 database units.
     pub overlap: u32,
-    /// How the conflicts are found.
+    /// How the work is shared.
     pub sharing: Sharing,
 }
 
@@ -72,18 +71,8 @@ pub fn find<R: Threads + Wait + Sync, G: Gate + Sync>(
         Err(LayerFault::Refused { name, at }) => return Ok(Finding::Refused { name, at }),
         Err(LayerFault::NoMemory) => return Err(AllocError),
     };
+    let Conflicting { cut, conflicts } = cut_with_conflicts(rt, alloc, order, slabs, gate)?;
     let spacing = Spacing::uniform(order.rule);
-    let no_marks = Slabs::empty(alloc);
-    let cut = cut_by(
-        rt,
-        alloc,
-        slabs,
-        spacing,
-        order.overlap,
-        &no_marks,
-        order.sharing.workers,
-    )?;
-    let conflicts = conflicts_of(rt, alloc, &cut, None, spacing, order.sharing, gate)?;
     let tangles = clashes_of(alloc, cut, &conflicts, spacing, order.overlap)?;
     Ok(Finding::Cycles(Cycles { copied, tangles }))
 }

@@ -2,6 +2,7 @@
 #![tactic(auto)]
 
 mod clashes;
+mod conflicting;
 mod contents;
 mod counts;
 mod finding;

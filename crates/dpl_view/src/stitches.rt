@@ -8,16 +8,15 @@ ghost use Rattle.dpl_answer.specs.View.{AreConflictsOf};
 ghost use Rattle.dpl_view.specs.Findings.{IsInRange};
 ghost use Rattle.dpl_view.specs.Stitches.{AreSeams, IsSplit, status_of_split};
 
+use crate::conflicting::{Conflicting, cut_with_conflicts};
 use crate::finding::Order;
 use crate::status::Status;
-use dpl_answer::{Conflicts, Decomposed, answer_of, conflicts_of};
+use dpl_answer::{Conflicts, Decomposed, answer_of};
 use dpl_base::{Listed, Spacing};
 use dpl_cert::{Name, StitchLine};
 use dpl_cut::BareLayerCut;
 use dpl_layer::{Layer, LayerFault, layer_by};
 use dpl_pool::Gate;
-use dpl_slabs::Slabs;
-use dpl_wide::cut_by;
 use std::alloc::{AllocError, Global};
 use std::sync::Wait;
 use std::thread::Threads;
@@ -65,18 +64,8 @@ pub fn find_stitches<R: Threads + Wait + Sync, G: Gate + Sync>(
         Err(LayerFault::Refused { name, at }) => return Ok(Split::Refused { name, at }),
         Err(LayerFault::NoMemory) => return Err(AllocError),
     };
+    let Conflicting { cut, conflicts } = cut_with_conflicts(rt, alloc, order, slabs, gate)?;
     let spacing = Spacing::uniform(order.rule);
-    let no_marks = Slabs::empty(alloc);
-    let cut = cut_by(
-        rt,
-        alloc,
-        slabs,
-        spacing,
-        order.overlap,
-        &no_marks,
-        order.sharing.workers,
-    )?;
-    let conflicts = conflicts_of(rt, alloc, &cut, None, spacing, order.sharing, gate)?;
     let seams = seams_of(
         rt,
         alloc,

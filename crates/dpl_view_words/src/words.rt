@@ -164,7 +164,7 @@ static ARGUMENTS: [Argument; 10] = [
         given: Default(&["4"]),
         form: Number(1, 64),
         is_common: false,
-        help: "How many threads share the tiles; it changes no answer",
+        help: "How many threads may share the work; it changes no answer",
     },
     Argument {
         id: "top",

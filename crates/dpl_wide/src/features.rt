@@ -6,7 +6,8 @@ ghost use Rattle.dpl_spec_split.specs.Components.{AreComponents};
 ghost use Rattle.dpl_feature.specs.Meeting.{AreMet};
 ghost use Rattle.dpl_stars.specs.Sums.{AreEdgePairs, Sums};
 ghost use Rattle.dpl_stars.specs.declared.joined.Joined.TheVariants.{Stars};
-ghost use Rattle.dpl_wide.specs.Touching.{AreTouchEdges, IsParent, SumsTouching};
+ghost use Rattle.dpl_wide.specs.Sheets.{below};
+ghost use Rattle.dpl_wide.specs.Touching.{AreTouchEdges, IsParent, SumsTouching, alone};
 
 use crate::alone::{own_owners, slabs_alone};
 use crate::dealt::components;
@@ -54,6 +55,31 @@ fn parents_of(alloc: Global, layer: &Slabs, joined: &Joined) -> Result<Vec<usize
     Ok(parents)
 }
 
+/// The parent of each slab of a layer, found by workers, where each slab is a set by itself with its own number for its owner.
+fn parents_by<G: Gate + Sync, R: Threads + Wait + Sync>(
+    rt: &R,
+    alloc: Global,
+    layer: &Slabs,
+    parts: &Parts,
+    owners: &[Id],
+    tile: u32,
+    workers: u32,
+    gate: &G,
+) -> Result<Vec<usize>, AllocError>
+    requires canonical { IsCanonical layer.now }
+    requires parts { parts.now ≡ alone layer.now }
+    requires owners { owners.now ≡ below (length layer.now) }
+    requires tile { 1 ≤ tile }
+    requires workers { (0 < workers) × (workers ≤ 64) }
+    ensures { IfOk result (λ v. AreMet layer.now v.items) }
+{
+    let side = side_for(parts, tile);
+    let plan = plan(alloc, parts, owners, TOUCHING, side)?;
+    let job = TouchJob::of(alloc, layer, plan)?;
+    let board = run_pool(rt, alloc, workers, &job, gate)?;
+    parents_of(alloc, layer, board.joined())
+}
+
 /// The features of a layer, as `dpl_feature::features` gives them, by so many workers, 1 to 64, which share the tiles of the layer's slabs. A tile's side is `tile` in database units, 1 or more, doubled while there would be too many tiles. Nothing of the tiles and workers shows in the features.
 ///
 /// The error: out of memory, as which a layer of 2^32 slabs or more is refused too.
@@ -71,10 +97,6 @@ pub fn features_by<G: Gate + Sync, R: Threads + Wait + Sync>(
 {
     let parts = slabs_alone(alloc, layer)?;
     let owners = own_owners(alloc, layer.rects().len())?;
-    let side = side_for(&parts, tile);
-    let plan = plan(alloc, &parts, &owners, TOUCHING, side)?;
-    let job = TouchJob::of(alloc, layer, plan)?;
-    let board = run_pool(rt, alloc, workers, &job, gate)?;
-    let parents = parents_of(alloc, layer, board.joined())?;
+    let parents = parents_by(rt, alloc, layer, &parts, &owners, tile, workers, gate)?;
     components(alloc, layer, parents)
 }
