@@ -153,7 +153,7 @@ cut-along rest hole solid within hole_in c = record {
   };
 }
 
-are-cut : (rest hole before after : Rect) → IsSolid rest → IsRectWithin farthest rest → IsRectWithin farthest hole → AreHalves rest hole before after
+pub are-cut : (rest hole before after : Rect) → IsSolid rest → IsRectWithin farthest rest → IsRectWithin farthest hole → AreHalves rest hole before after
     → AreCut rest hole before after
 are-cut rest hole before after solid within hole_in (inl (c, b, a)) = rw (b, a) (cut-across rest hole solid within hole_in c)
 are-cut rest hole before after solid within hole_in (inr (c, b, a)) = rw (b, a) (cut-along rest hole solid within hole_in c)

@@ -1,8 +1,7 @@
 -- What the zones leave of a layer goes on beside each of them.
-use Rattle.std.proofs.Common.{◌≡◌, ℕ, ◌<◌, ◌⊎◌, inl, inr, List, [], length, get_or, sym, ◌∙◌, subst, arith}
-use Rattle.std.specs.Prelude.{ℤ, pos, ◌+ℤ◌, ◌-ℤ◌, ◌≤ℤ◌, ◌<ℤ◌}
+use Rattle.std.proofs.Common.{◌≡◌, ℕ, ◌<◌, ◌⊎◌, inl, inr, List, [], length, get_or, sym, ◌∙◌, subst}
+use Rattle.std.specs.Prelude.{ℤ, pos, ◌+ℤ◌, ◌≤ℤ◌, ◌<ℤ◌}
 use Rattle.std.specs.List.{Contains}
-use Rattle.std.proofs.lemmas.Int.{ints}
 use Rattle.std.proofs.lemmas.List.{get_or_default}
 use Rattle.dpl_spec_split.specs.declared.Spacing.{Spacing}
 use Rattle.dpl_spec_split.specs.declared.Pt.{Pt}
@@ -16,6 +15,7 @@ use Rattle.dpl_spec_split.proofs.SquareLaws.{Touch-from_close, Touch-sym}
 use Rattle.dpl_spec_split.proofs.ComponentLaws.{Linked-trans}
 use Rattle.dpl_spec_split.proofs.ZoneLaws.{zone-in-feature, beside-in-feature, beside-same}
 use Rattle.dpl_spec_split.proofs.WholeLaws.{part-unique}
+use Rattle.dpl_piece.proofs.Steps.{beside-from, beside-to, next-one, next-to, not-beside}
 
 -- a square of some part is one of the set
 pub in-set : (a : Region) (parts : List (List Rect)) (k : ℕ) (p : Pt) → AreComponents a parts → k < length parts → part_at parts k p → a p
@@ -61,33 +61,17 @@ module _ (spacing : Spacing) (overlap : ℕ) (layer : Region) (features : List (
         → ((x +ℤ pos 1 ≡ z.rect.x0) ⊎ (x ≡ z.rect.x1)) → z.rect.x0 <ℤ z.rect.x1 → z.rect.y0 ≤ℤ y → y <ℤ z.rect.y1
         → without layer zones (at x y)
     rest-across h x y side wide from below =
-        let left : z.rect.x0 ≤ℤ (x +ℤ pos 1) = elim side [ inl e ↦ omega (arith, ints, e) | inr e ↦ omega (arith, ints, e, wide) ] in
-        let right : x ≤ℤ z.rect.x1 = elim side [ inl e ↦ omega (arith, ints, e, wide) | inr e ↦ omega (arith, ints, e) ] in
+        let left : z.rect.x0 ≤ℤ (x +ℤ pos 1) = beside-from x z.rect.x0 z.rect.x1 side wide in
+        let right : x ≤ℤ z.rect.x1 = beside-to x z.rect.x0 z.rect.x1 side wide in
         let in_f = beside-in-feature spacing layer (part_at features z.feature) overlap z.rect h x y left right from below in (
           in-set layer features z.feature (at x y) c feature_in in_f,
           λ (n, w, n_in, n_is, has). elim (zone-of w z.feature (at x y) (n, n_in, n_is) feature_in in_f has) [
             | inl k ↦ (let same : z.rect ≡ w.rect = beside-same spacing layer (part_at features z.feature) overlap z.rect w.rect h k x y left right from below has in
                 let mine : Has z.rect (at x y) = subst (λ r. Has r (at x y)) (sym same) has in
-                elim side [ inl e ↦ omega (arith, ints, e, mine.left) | inr e ↦ omega (arith, ints, e, mine.right) ])
-            | inr (v, apart) ↦ apart z.rect h
-                (elim side [
-                  | inl e ↦ (
-                    at z.rect.x0 y,
-                    at x y,
-                    record { left = omega (arith, ints); right = wide; low = from; high = below },
-                    has,
-                    Touch-from_close (at z.rect.x0 y) (at x y) (omega (arith, ints, e)) (omega (arith, ints, e)) (omega (arith, ints))
-                        (omega (arith, ints)),
-                  )
-                  | inr e ↦ (
-                    at (z.rect.x1 -ℤ pos 1) y,
-                    at x y,
-                    record { left = omega (arith, ints, wide); right = omega (arith, ints); low = from; high = below },
-                    has,
-                    Touch-from_close (at (z.rect.x1 -ℤ pos 1) y) (at x y) (omega (arith, ints, e)) (omega (arith, ints, e))
-                        (omega (arith, ints)) (omega (arith, ints)),
-                  )
-                ])
+                not-beside x z.rect.x0 z.rect.x1 side mine.left mine.right)
+            | inr (v, apart) ↦ (let (q, least, most, near, far) = next-to x z.rect.x0 z.rect.x1 side wide in
+                apart z.rect h
+                (at q y, at x y, record { left = least; right = most; low = from; high = below }, has, Touch-from_close (at q y) (at x y) far near (next-one y) (next-one y)))
           ],
         )
 
@@ -97,35 +81,19 @@ module _ (spacing : Spacing) (overlap : ℕ) (layer : Region) (features : List (
         → ((y +ℤ pos 1 ≡ z.rect.y0) ⊎ (y ≡ z.rect.y1)) → z.rect.y0 <ℤ z.rect.y1 → z.rect.x0 ≤ℤ x → x <ℤ z.rect.x1
         → without layer zones (at x y)
     rest-up h none x y side tall from below =
-        let low : z.rect.y0 ≤ℤ (y +ℤ pos 1) = elim side [ inl e ↦ omega (arith, ints, e) | inr e ↦ omega (arith, ints, e, tall) ] in
-        let high : y ≤ℤ z.rect.y1 = elim side [ inl e ↦ omega (arith, ints, e, tall) | inr e ↦ omega (arith, ints, e) ] in
+        let low : z.rect.y0 ≤ℤ (y +ℤ pos 1) = beside-from y z.rect.y0 z.rect.y1 side tall in
+        let high : y ≤ℤ z.rect.y1 = beside-to y z.rect.y0 z.rect.y1 side tall in
         let in_f = beside-in-feature spacing (transposed layer) (transposed (part_at features z.feature)) overlap (transposed_rect z.rect) h y x low high from below in (
           in-set layer features z.feature (at x y) c feature_in in_f,
           λ (n, w, n_in, n_is, has). elim (zone-of w z.feature (at x y) (n, n_in, n_is) feature_in in_f has) [
-            | inl k ↦ none w.rect k
-                (elim side [
-                  | inl e ↦ (
-                    at x y,
-                    at x z.rect.y0,
-                    has,
-                    record { left = from; right = below; low = omega (arith, ints); high = tall },
-                    Touch-from_close (at x y) (at x z.rect.y0) (omega (arith, ints)) (omega (arith, ints)) (omega (arith, ints, e))
-                        (omega (arith, ints, e)),
-                  )
-                  | inr e ↦ (
-                    at x y,
-                    at x (z.rect.y1 -ℤ pos 1),
-                    has,
-                    record { left = from; right = below; low = omega (arith, ints, tall); high = omega (arith, ints) },
-                    Touch-from_close (at x y) (at x (z.rect.y1 -ℤ pos 1)) (omega (arith, ints)) (omega (arith, ints))
-                        (omega (arith, ints, e)) (omega (arith, ints, e)),
-                  )
-                ])
+            | inl k ↦ (let (q, least, most, near, far) = next-to y z.rect.y0 z.rect.y1 side tall in
+                none w.rect k
+                (at x y, at x q, has, record { left = from; right = below; low = least; high = most }, Touch-from_close (at x y) (at x q) (next-one x) (next-one x) near far))
             | inr (v, apart) ↦ (let same : transposed_rect z.rect ≡ transposed_rect w.rect = beside-same spacing (transposed layer)
                 (transposed (part_at features z.feature)) overlap (transposed_rect z.rect) (transposed_rect w.rect) h v y x low high from below
                 (record { left = has.low; right = has.high; low = has.left; high = has.right }) in
                 let mine : Has (transposed_rect z.rect) (at y x) = subst (λ r. Has r (at y x)) (sym same)
                 (record { left = has.low; right = has.high; low = has.left; high = has.right }) in
-                elim side [ inl e ↦ omega (arith, ints, e, mine.left) | inr e ↦ omega (arith, ints, e, mine.right) ])
+                not-beside y z.rect.y0 z.rect.y1 side mine.left mine.right)
           ],
         )

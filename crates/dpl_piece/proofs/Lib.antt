@@ -1,5 +1,6 @@
 pub mod Taken
 pub mod CornerLaws
+pub mod Steps
 pub mod Beside
 pub mod Stands
 pub mod Regions

@@ -1,6 +1,6 @@
 -- Pieces of features that were made before the features' turn.
 use Rattle.std.proofs.Common.{◌≡◌, ℕ, ◌-◌, ◌<◌, inr, List, [], ◌∷◌, ◌++◌, length, get_or, map, reverse, take, sym, ap, ◌∙◌, subst, arith}
-use Rattle.std.specs.Prelude.{◌≢◌, ◌↔◌}
+use Rattle.std.specs.Prelude.{◌≢◌, ◌↔◌, Result, Ok, Err, OnOk}
 use Rattle.std.specs.List.{All, Contains}
 use Rattle.std.proofs.lemmas.List.{get_or-reverse, length-map, length-reverse, map-append}
 use Rattle.std.proofs.lemmas.List.Elements.{All-contains, Contains-get_or}
@@ -18,14 +18,21 @@ use Rattle.dpl_sides.specs.Sided.{numbers_in, sides_in}
 use Rattle.dpl_piece.specs.Made.{AreMadeOf, IsMade}
 use Rattle.dpl_sides.specs.Noted.{AreMoved, AreSidesNoted, StandsAfterFrom, StandsBeforeFrom}
 use Rattle.dpl_sides.specs.Pieces.{no_zone, parts_in, rect_at}
-use Rattle.dpl_piece.specs.Pieces.{feature_at, left_of, AddsPieces, AreBroken, AreHolesOf, AreZonesFrom}
+use Rattle.dpl_piece.specs.declared.rest.Cutting.{Cutting}
+use Rattle.dpl_piece.specs.Adding.{AddsFeature, AddsMade}
+use Rattle.dpl_piece.specs.Pieces.{feature_at, left_of, AddsPieces, AreBroken, AreHolesOf, AreZonesFrom, AreZonesOf}
 use Rattle.dpl_piece.specs.Wholes.{whole_of, KeepsWhole}
 use Rattle.dpl_sides.proofs.CornerLaws.{map-Contains}
 use Rattle.dpl_piece.proofs.Cuts.{zones-below}
 use Rattle.dpl_piece.proofs.Moved.{moved-after, moved-before, sides-moved, unmoved-after, unmoved-before}
 use Rattle.dpl_piece.proofs.Sides.{parts-broken}
-use Rattle.dpl_piece.proofs.Turns.{own-feature, own-holes, own-known, own-there}
+use Rattle.dpl_piece.proofs.Turns.{own-feature, own-holes, own-known, own-there, zones-holes, zones-known}
 use Rattle.dpl_piece.proofs.Regions.{components-same}
+
+-- what holds of a result by two clauses of it
+pub both-ok : {T E : Type 0} (r : Result T E) (P Q S : Type 0) → (P → Q → S) → OnOk r P → OnOk r Q → OnOk r S
+both-ok (Ok x) P Q S f p q = f p q
+both-ok (Err e) P Q S f p q = tt
 
 pub All-reverse : {X : Type 0} (P : X → Type 0) (xs : List X) → All P xs → All P (reverse xs)
 All-reverse P xs h k d k_in =
@@ -88,7 +95,7 @@ made-known features zones m made noted each k d k_in =
     omega (arith, known, each)
 
 -- the pieces that were made are those of the feature
-pub made-adds : (features : List (List Rect)) (zones : List Zone) (n : ℕ) (holes : List Rect) (old new : List Piece) → AreHolesOf zones n holes → (m : Made)
+made-adds : (features : List (List Rect)) (zones : List Zone) (n : ℕ) (holes : List Rect) (old new : List Piece) → AreHolesOf zones n holes → (m : Made)
     → IsMade features zones m → m.feature ≡ n → new ≡ old ++ m.pieces.items → AddsPieces (get_or features n []) holes n old new
 made-adds features zones n holes old new own m made is added =
     subst (λ k. AreHolesOf zones k holes → AddsPieces (get_or features k []) holes k old new) is
@@ -102,7 +109,7 @@ made-adds features zones n holes old new own m made is added =
     )) own
 
 -- and the feature is kept
-pub made-keeps : (features : List (List Rect)) (zones : List Zone) (n : ℕ) (feature holes : List Rect) (old new : List Whole) → AreHolesOf zones n holes → (m : Made)
+made-keeps : (features : List (List Rect)) (zones : List Zone) (n : ℕ) (feature holes : List Rect) (old new : List Whole) → AreHolesOf zones n holes → (m : Made)
     → IsMade features zones m → m.feature ≡ n → new ≡ old ++ whole_of m.feature feature ∷ [] → KeepsWhole feature holes n old new
 made-keeps features zones n feature holes old new own m made is kept =
     subst (λ k. AreHolesOf zones k holes → KeepsWhole feature holes k old new) is (λ of_m. inr (made-some features zones m holes of_m made, kept)) own
@@ -124,7 +131,7 @@ module _ (features : List (List Rect)) (zones : List Zone) (n : ℕ) (own : List
   from : length pieces ≡ length (parts_in pieces)
   from = sym (length-map pieces (λ x. let u : Piece = x in u.part))
 
-  pub made-firsts : (old noted : List ℕ) → AreMoved (length pieces) (numbers_in m.zones.items) (sides_in Before m.zones.items) old noted
+  made-firsts : (old noted : List ℕ) → AreMoved (length pieces) (numbers_in m.zones.items) (sides_in Before m.zones.items) old noted
       → AreSidesNoted (StandsBeforeFrom (parts_in new) (length (parts_in pieces))) zones own old noted
   made-firsts old noted moved =
       let before : List (List Rect) = parts_in pieces in
@@ -134,7 +141,7 @@ module _ (features : List (List Rect)) (zones : List Zone) (n : ℕ) (own : List
       zones own (numbers_in m.zones.items) (sides_in Before m.zones.items) old noted same made.are.firsts
       (subst (λ k. AreMoved k (numbers_in m.zones.items) (sides_in Before m.zones.items) old noted) from moved))
 
-  pub made-seconds : (old noted : List ℕ) → AreMoved (length pieces) (numbers_in m.zones.items) (sides_in After m.zones.items) old noted
+  made-seconds : (old noted : List ℕ) → AreMoved (length pieces) (numbers_in m.zones.items) (sides_in After m.zones.items) old noted
       → AreSidesNoted (StandsAfterFrom (parts_in new) (length (parts_in pieces))) zones own old noted
   made-seconds old noted moved =
       let before : List (List Rect) = parts_in pieces in
@@ -143,3 +150,22 @@ module _ (features : List (List Rect)) (zones : List Zone) (n : ℕ) (own : List
       (sides-moved (length before) (StandsAfterFrom more 0) (StandsAfterFrom (before ++ more) (length before)) (unmoved-after before more) (moved-after before more)
       zones own (numbers_in m.zones.items) (sides_in After m.zones.items) old noted same made.are.seconds
       (subst (λ k. AreMoved k (numbers_in m.zones.items) (sides_in After m.zones.items) old noted) from moved))
+
+-- what was made of a feature before adds it as it would be added now
+pub made-feature : (features : List (List Rect)) (zones : List Zone) (n : ℕ) (feature : List Rect) (own : List ℕ) (old new : Cutting) → AreZonesOf zones n own
+    → (m : Made) → IsMade features zones m → m.feature ≡ n → get_or features n [] ≡ feature → AddsMade feature m old new → AddsFeature feature zones own n old new
+made-feature features zones n feature own old new are m made is at adds =
+    let there : (j : ℕ) → j < length zones → feature_at zones j ≡ n → Contains own j = λ j j_in of. (are j).1 (j_in, of) in
+    let mine : (j : ℕ) → Contains own j → feature_at zones j ≡ n = λ j j_in. ((are j).0 j_in).1 in
+    let known = zones-known zones n own are in
+    let holes = zones-holes zones n own are in
+    let from : length (parts_in old.pieces.items) ≡ length old.pieces.items = length-map old.pieces.items (λ x. let u : Piece = x in u.part) in
+    let pieces = made-adds features zones n (map (rect_at zones) own) old.pieces.items new.pieces.items holes m made is adds.pieces in
+    record {
+      pieces = subst (λ f. AddsPieces f (map (rect_at zones) own) n old.pieces.items new.pieces.items) at pieces;
+      wholes = made-keeps features zones n feature (map (rect_at zones) own) old.wholes.items new.wholes.items holes m made is adds.wholes;
+      firsts = subst (λ k. AreSidesNoted (StandsBeforeFrom (parts_in new.pieces.items) k) zones own old.noted.firsts.items new.noted.firsts.items) from
+          (made-firsts features zones n own there known mine m made is old.pieces.items new.pieces.items adds.pieces old.noted.firsts.items new.noted.firsts.items adds.firsts);
+      seconds = subst (λ k. AreSidesNoted (StandsAfterFrom (parts_in new.pieces.items) k) zones own old.noted.seconds.items new.noted.seconds.items) from
+          (made-seconds features zones n own there known mine m made is old.pieces.items new.pieces.items adds.pieces old.noted.seconds.items new.noted.seconds.items adds.seconds);
+    }

@@ -1,8 +1,8 @@
 -- On each side of a zone a piece has a slab with a corner of the zone.
 use Rattle.std.proofs.Common.{◌≡◌, ℕ, ◌≤◌, ◌<◌, inl, inr, List, [], length, get_or, refl, ap, ◌∙◌, subst, arith}
-use Rattle.std.specs.Prelude.{ℤ, pos, ◌+ℤ◌, ◌-ℤ◌, ◌≤ℤ◌, ◌<ℤ◌, unsigned_abs}
+use Rattle.std.specs.Prelude.{ℤ, pos, ◌+ℤ◌, ◌-ℤ◌, ◌<ℤ◌, unsigned_abs}
 use Rattle.std.specs.List.{All, Contains}
-use Rattle.std.proofs.lemmas.Int.{ints, by_lt_z}
+use Rattle.std.proofs.lemmas.Int.{ints}
 use Rattle.std.proofs.lemmas.List.Elements.{All-contains}
 use Rattle.dpl_spec_split.specs.declared.Spacing.{Spacing}
 use Rattle.dpl_spec_split.specs.declared.Pt.{Pt}
@@ -14,11 +14,12 @@ use Rattle.dpl_spec_split.specs.Loops.{farthest, IsRectWithin, AreRectsWithin}
 use Rattle.dpl_spec_split.specs.Components.{AreComponents}
 use Rattle.dpl_spec_split.specs.Zones.{at, IsHorizontalZone, IsVerticalZone, IsKeptZone, transposed, transposed_rect, AreSomeZones, part_at}
 use Rattle.dpl_spec_split.specs.Pieces.{without, IsFirstSide, IsSecondSide, AreSides}
-use Rattle.dpl_spec_split.proofs.SquareLaws.{Touch-from_close}
 use Rattle.dpl_spec_split.proofs.SlabLaws.{Covers-member, member-Covers}
 use Rattle.dpl_sides.specs.declared.corner.Corner.{Corner}
 use Rattle.dpl_sides.specs.declared.corner.Kind.TheVariants.{LowerLeft, LowerRight, UpperLeft}
 use Rattle.dpl_sides.specs.Corners.{corner_at, IsCornerOf, StandBeside}
+use Rattle.dpl_piece.proofs.Steps.{back-again, before-it, begins-at, down-one, ends-at, near-above, near-below, near-left, near-right}
+use Rattle.dpl_piece.proofs.Steps.{one-less, past-one, same-before, same-from, self, touch-lower_left, touch-lower_right, touch-upper_left, two-more, up-to}
 use Rattle.dpl_piece.proofs.Beside.{in-set, some-part, closed, kept, kept-inside, rest-across, rest-up}
 
 -- a zone has some square, and its stretch goes on beyond it by a column on each side
@@ -100,8 +101,13 @@ module _ (spacing : Spacing) (overlap : ℕ) (layer : Region) (features : List (
       let zt = solid-zone.1 in
       let p : Pt = at z.rect.x0 z.rect.y0 in
       let q : Pt = at (z.rect.x1 -ℤ pos 1) (z.rect.y1 -ℤ pos 1) in
-      let p_in : Has z.rect p = record { left = omega (arith, ints); right = zw; low = omega (arith, ints); high = zt } in
-      let q_in : Has z.rect q = record { left = omega (arith, ints, zw); right = omega (arith, ints); low = omega (arith, ints, zt); high = omega (arith, ints) } in
+      let p_in : Has z.rect p = record { left = self z.rect.x0; right = zw; low = self z.rect.y0; high = zt } in
+      let q_in : Has z.rect q = record {
+        left = up-to z.rect.x0 z.rect.x1 zw;
+        right = before-it z.rect.x1;
+        low = up-to z.rect.y0 z.rect.y1 zt;
+        high = before-it z.rect.y1;
+      } in
       let one = square-within (get_or features z.feature []) p (within z.feature [] k.0)
       (kept-inside spacing overlap layer features zones c zs (part_at features z.feature) z.rect p k.1 p_in) in
       let two = square-within (get_or features z.feature []) q (within z.feature [] k.0)
@@ -111,25 +117,6 @@ module _ (spacing : Spacing) (overlap : ℕ) (layer : Region) (features : List (
       let tx = two.next_column in
       let ty = two.next_row in
       record { wide = zw; tall = zt; left = ox; right = omega (arith, ints, tx); low = oy; high = omega (arith, ints, ty) }
-
-up-to : (a b : ℤ) → a <ℤ b → a ≤ℤ (b -ℤ pos 1)
-up-to a b l = omega (arith, ints, l)
-
-one-less : (a b e : ℤ) → a <ℤ b → b <ℤ e → (a -ℤ pos 1) <ℤ e
-one-less a b e l m = omega (arith, ints, l, m)
-
--- squares side by side touch
-touch-left : (x y : ℤ) → Touch (at (x -ℤ pos 1) y) (at x y)
-touch-left x y = Touch-from_close (at (x -ℤ pos 1) y) (at x y) (omega (arith, ints)) (omega (arith, ints)) (omega (arith, ints)) (omega (arith, ints))
-
-touch-right : (x y : ℤ) → Touch (at x y) (at (x -ℤ pos 1) y)
-touch-right x y = Touch-from_close (at x y) (at (x -ℤ pos 1) y) (omega (arith, ints)) (omega (arith, ints)) (omega (arith, ints)) (omega (arith, ints))
-
-touch-below : (x y : ℤ) → Touch (at x (y -ℤ pos 1)) (at x y)
-touch-below x y = Touch-from_close (at x (y -ℤ pos 1)) (at x y) (omega (arith, ints)) (omega (arith, ints)) (omega (arith, ints)) (omega (arith, ints))
-
-touch-above : (x y : ℤ) → Touch (at x y) (at x (y -ℤ pos 1))
-touch-above x y = Touch-from_close (at x y) (at x (y -ℤ pos 1)) (omega (arith, ints)) (omega (arith, ints)) (omega (arith, ints)) (omega (arith, ints))
 
 -- parts with squares of what the zones leave of a layer alone, among them all of a feature
 pub record AreLeftOf (layer : Region) (zones : List Zone) (feature : Region) (parts : List (List Rect)) : Type 0 where
@@ -179,60 +166,47 @@ module _ (spacing : Spacing) (overlap : ℕ) (layer : Region) (features pieces :
       first-across =
           let wide = b.wide in
           let tall = b.tall in
-          let left = b.left in
-          let right = b.right in
           let rows = h.middle.rows in
           let x : ℤ = z.rect.x0 -ℤ pos 1 in
           let p : Pt = at x z.rect.y0 in
           let q : Pt = at z.rect.x0 z.rect.y0 in
-          let q_in : Has z.rect q = record { left = omega (arith, ints); right = wide; low = omega (arith, ints); high = tall } in
+          let q_in : Has z.rect q = record { left = self z.rect.x0; right = wide; low = self z.rect.y0; high = tall } in
           let (i, r, i_in, r_in, has) = beside-slab p q (rest-across spacing overlap layer features zones c zs z z_in h x z.rect.y0
-          (inl (omega (arith, ints))) wide (omega (arith, ints)) tall) q_in (touch-left z.rect.x0 z.rect.y0) in
-          let hl = has.left in
-          let hr = has.right in
-          let hb = has.low in
-          let ht = has.high in
-          let column : r.x1 ≡ z.rect.x0 = by_lt_z z.rect.x0 r.x1
-          (λ l. absurd (not-in-zone q (slab-rest i r q i_in r_in (record { left = omega (arith, ints, hl); right = l; low = hb; high = ht })) q_in))
-          (λ m. omega (arith, ints, m, hr)) in
-          let row : r.y0 ≡ z.rect.y0 = by_lt_z r.y0 z.rect.y0
-          (λ l. absurd (
+          (inl (back-again z.rect.x0)) wide (self z.rect.y0) tall) q_in (near-left z.rect.x0 z.rect.y0 z.rect.x0 z.rect.y0 refl refl) in
+          let column : r.x1 ≡ z.rect.x0 = ends-at z.rect.x0 r.x1 has.right
+          (λ l. not-in-zone q (slab-rest i r q i_in r_in (record { left = past-one r.x0 z.rect.x0 has.left; right = l; low = has.low; high = has.high })) q_in) in
+          let row : r.y0 ≡ z.rect.y0 = begins-at r.y0 z.rect.y0 has.low
+          (λ l.
           let s : Pt = at x (z.rect.y0 -ℤ pos 1) in
-          let rest = slab-rest i r s i_in r_in (record { left = hl; right = hr; low = omega (arith, ints, l); high = omega (arith, ints, ht) }) in
-          let in_f = touching-in s q rest q_in (Touch-from_close s q (omega (arith, ints)) (omega (arith, ints)) (omega (arith, ints)) (omega (arith, ints))) in
-          let run = h.is.runs x (up-to h.stretch.x0 z.rect.x0 left) (one-less z.rect.x0 z.rect.x1 h.stretch.x1 wide right) in
-          run.below (subst (λ y. part_at features z.feature (at x y)) (ap (λ y. y -ℤ pos 1) rows.0) in_f)))
-          (λ m. omega (arith, ints, m, hb)) in
+          let rest = slab-rest i r s i_in r_in
+          (record { left = has.left; right = has.right; low = up-to r.y0 z.rect.y0 l; high = down-one z.rect.y0 r.y1 has.high }) in
+          let in_f = touching-in s q rest q_in (touch-lower_left z.rect.x0 z.rect.y0) in
+          let run = h.is.runs x (up-to h.stretch.x0 z.rect.x0 b.left) (one-less z.rect.x0 z.rect.x1 h.stretch.x1 wide b.right) in
+          run.below (subst (λ y. part_at features z.feature (at x y)) (ap (λ y. y -ℤ pos 1) rows.0) in_f)) in
           (i, (i, r, i_in, r_in, corner-same r.x1 r.y0 z.rect.x0 z.rect.y0 i column row))
 
       second-across : (k : ℕ) × IsCornerOf LowerLeft pieces (corner_at z.rect.x1 z.rect.y0 k)
       second-across =
           let wide = b.wide in
           let tall = b.tall in
-          let left = b.left in
-          let right = b.right in
           let rows = h.middle.rows in
           let x : ℤ = z.rect.x1 in
           let p : Pt = at x z.rect.y0 in
           let q : Pt = at (z.rect.x1 -ℤ pos 1) z.rect.y0 in
-          let q_in : Has z.rect q = record { left = omega (arith, ints, wide); right = omega (arith, ints); low = omega (arith, ints); high = tall } in
+          let q_in : Has z.rect q = record { left = up-to z.rect.x0 z.rect.x1 wide; right = before-it z.rect.x1; low = self z.rect.y0; high = tall } in
           let (i, r, i_in, r_in, has) = beside-slab p q (rest-across spacing overlap layer features zones c zs z z_in h x z.rect.y0
-          (inr refl) wide (omega (arith, ints)) tall) q_in (touch-right z.rect.x1 z.rect.y0) in
-          let hl = has.left in
-          let hr = has.right in
-          let hb = has.low in
-          let ht = has.high in
-          let column : r.x0 ≡ z.rect.x1 = by_lt_z r.x0 z.rect.x1
-          (λ l. absurd (not-in-zone q (slab-rest i r q i_in r_in (record { left = omega (arith, ints, l); right = omega (arith, ints, hr); low = hb; high = ht })) q_in))
-          (λ m. omega (arith, ints, m, hl)) in
-          let row : r.y0 ≡ z.rect.y0 = by_lt_z r.y0 z.rect.y0
-          (λ l. absurd (
+          (inr refl) wide (self z.rect.y0) tall) q_in (near-right z.rect.x1 z.rect.y0 z.rect.x1 z.rect.y0 refl refl) in
+          let column : r.x0 ≡ z.rect.x1 = begins-at r.x0 z.rect.x1 has.left
+          (λ l. not-in-zone q (slab-rest i r q i_in r_in
+          (record { left = up-to r.x0 z.rect.x1 l; right = down-one z.rect.x1 r.x1 has.right; low = has.low; high = has.high })) q_in) in
+          let row : r.y0 ≡ z.rect.y0 = begins-at r.y0 z.rect.y0 has.low
+          (λ l.
           let s : Pt = at x (z.rect.y0 -ℤ pos 1) in
-          let rest = slab-rest i r s i_in r_in (record { left = hl; right = hr; low = omega (arith, ints, l); high = omega (arith, ints, ht) }) in
-          let in_f = touching-in s q rest q_in (Touch-from_close s q (omega (arith, ints)) (omega (arith, ints)) (omega (arith, ints)) (omega (arith, ints))) in
-          let run = h.is.runs x (omega (arith, ints, wide, left)) (omega (arith, ints, right)) in
-          run.below (subst (λ y. part_at features z.feature (at x y)) (ap (λ y. y -ℤ pos 1) rows.0) in_f)))
-          (λ m. omega (arith, ints, m, hb)) in
+          let rest = slab-rest i r s i_in r_in
+          (record { left = has.left; right = has.right; low = up-to r.y0 z.rect.y0 l; high = down-one z.rect.y0 r.y1 has.high }) in
+          let in_f = touching-in s q rest q_in (touch-lower_right z.rect.x1 z.rect.y0) in
+          let run = h.is.runs x (two-more h.stretch.x0 z.rect.x0 z.rect.x1 b.left wide) b.right in
+          run.below (subst (λ y. part_at features z.feature (at x y)) (ap (λ y. y -ℤ pos 1) rows.0) in_f)) in
           (i, (i, r, i_in, r_in, corner-same r.x0 r.y0 z.rect.x1 z.rect.y0 i column row))
 
     module _ (h : IsVerticalZone spacing overlap layer (part_at features z.feature) z.rect) (none : (r : Rect)
@@ -244,60 +218,47 @@ module _ (spacing : Spacing) (overlap : ℕ) (layer : Region) (features pieces :
       first-up =
           let tall : z.rect.y0 <ℤ z.rect.y1 = v.wide in
           let wide : z.rect.x0 <ℤ z.rect.x1 = v.tall in
-          let left = v.left in
-          let right = v.right in
           let rows = h.middle.rows in
           let y : ℤ = z.rect.y0 -ℤ pos 1 in
           let p : Pt = at z.rect.x0 y in
           let q : Pt = at z.rect.x0 z.rect.y0 in
-          let q_in : Has z.rect q = record { left = omega (arith, ints); right = wide; low = omega (arith, ints); high = tall } in
+          let q_in : Has z.rect q = record { left = self z.rect.x0; right = wide; low = self z.rect.y0; high = tall } in
           let (i, r, i_in, r_in, has) = beside-slab p q (rest-up spacing overlap layer features zones c zs z z_in h none z.rect.x0 y
-          (inl (omega (arith, ints))) tall (omega (arith, ints)) wide) q_in (touch-below z.rect.x0 z.rect.y0) in
-          let hl = has.left in
-          let hr = has.right in
-          let hb = has.low in
-          let ht = has.high in
-          let row : r.y1 ≡ z.rect.y0 = by_lt_z z.rect.y0 r.y1
-          (λ l. absurd (not-in-zone q (slab-rest i r q i_in r_in (record { left = hl; right = hr; low = omega (arith, ints, hb); high = l })) q_in))
-          (λ m. omega (arith, ints, m, ht)) in
-          let column : r.x0 ≡ z.rect.x0 = by_lt_z r.x0 z.rect.x0
-          (λ l. absurd (
+          (inl (back-again z.rect.y0)) tall (self z.rect.x0) wide) q_in (near-below z.rect.x0 z.rect.y0 z.rect.x0 z.rect.y0 refl refl) in
+          let row : r.y1 ≡ z.rect.y0 = ends-at z.rect.y0 r.y1 has.high
+          (λ l. not-in-zone q (slab-rest i r q i_in r_in (record { left = has.left; right = has.right; low = past-one r.y0 z.rect.y0 has.low; high = l })) q_in) in
+          let column : r.x0 ≡ z.rect.x0 = begins-at r.x0 z.rect.x0 has.left
+          (λ l.
           let s : Pt = at (z.rect.x0 -ℤ pos 1) y in
-          let rest = slab-rest i r s i_in r_in (record { left = omega (arith, ints, l); right = omega (arith, ints, hr); low = hb; high = ht }) in
-          let in_f = touching-in s q rest q_in (Touch-from_close s q (omega (arith, ints)) (omega (arith, ints)) (omega (arith, ints)) (omega (arith, ints))) in
-          let run = h.is.runs y (up-to h.stretch.x0 z.rect.y0 left) (one-less z.rect.y0 z.rect.y1 h.stretch.x1 tall right) in
-          run.below (subst (λ x. part_at features z.feature (at x y)) (ap (λ x. x -ℤ pos 1) rows.0) in_f)))
-          (λ m. omega (arith, ints, m, hl)) in
+          let rest = slab-rest i r s i_in r_in
+          (record { left = up-to r.x0 z.rect.x0 l; right = down-one z.rect.x0 r.x1 has.right; low = has.low; high = has.high }) in
+          let in_f = touching-in s q rest q_in (touch-lower_left z.rect.x0 z.rect.y0) in
+          let run = h.is.runs y (up-to h.stretch.x0 z.rect.y0 v.left) (one-less z.rect.y0 z.rect.y1 h.stretch.x1 tall v.right) in
+          run.below (subst (λ x. part_at features z.feature (at x y)) (ap (λ x. x -ℤ pos 1) rows.0) in_f)) in
           (i, (i, r, i_in, r_in, corner-same r.x0 r.y1 z.rect.x0 z.rect.y0 i column row))
 
       second-up : (k : ℕ) × IsCornerOf LowerLeft pieces (corner_at z.rect.x0 z.rect.y1 k)
       second-up =
           let tall : z.rect.y0 <ℤ z.rect.y1 = v.wide in
           let wide : z.rect.x0 <ℤ z.rect.x1 = v.tall in
-          let left = v.left in
-          let right = v.right in
           let rows = h.middle.rows in
           let y : ℤ = z.rect.y1 in
           let p : Pt = at z.rect.x0 y in
           let q : Pt = at z.rect.x0 (z.rect.y1 -ℤ pos 1) in
-          let q_in : Has z.rect q = record { left = omega (arith, ints); right = wide; low = omega (arith, ints, tall); high = omega (arith, ints) } in
+          let q_in : Has z.rect q = record { left = self z.rect.x0; right = wide; low = up-to z.rect.y0 z.rect.y1 tall; high = before-it z.rect.y1 } in
           let (i, r, i_in, r_in, has) = beside-slab p q (rest-up spacing overlap layer features zones c zs z z_in h none z.rect.x0 y
-          (inr refl) tall (omega (arith, ints)) wide) q_in (touch-above z.rect.x0 z.rect.y1) in
-          let hl = has.left in
-          let hr = has.right in
-          let hb = has.low in
-          let ht = has.high in
-          let row : r.y0 ≡ z.rect.y1 = by_lt_z r.y0 z.rect.y1
-          (λ l. absurd (not-in-zone q (slab-rest i r q i_in r_in (record { left = hl; right = hr; low = omega (arith, ints, l); high = omega (arith, ints, ht) })) q_in))
-          (λ m. omega (arith, ints, m, hb)) in
-          let column : r.x0 ≡ z.rect.x0 = by_lt_z r.x0 z.rect.x0
-          (λ l. absurd (
+          (inr refl) tall (self z.rect.x0) wide) q_in (near-above z.rect.x0 z.rect.y1 z.rect.x0 z.rect.y1 refl refl) in
+          let row : r.y0 ≡ z.rect.y1 = begins-at r.y0 z.rect.y1 has.low
+          (λ l. not-in-zone q (slab-rest i r q i_in r_in
+          (record { left = has.left; right = has.right; low = up-to r.y0 z.rect.y1 l; high = down-one z.rect.y1 r.y1 has.high })) q_in) in
+          let column : r.x0 ≡ z.rect.x0 = begins-at r.x0 z.rect.x0 has.left
+          (λ l.
           let s : Pt = at (z.rect.x0 -ℤ pos 1) y in
-          let rest = slab-rest i r s i_in r_in (record { left = omega (arith, ints, l); right = omega (arith, ints, hr); low = hb; high = ht }) in
-          let in_f = touching-in s q rest q_in (Touch-from_close s q (omega (arith, ints)) (omega (arith, ints)) (omega (arith, ints)) (omega (arith, ints))) in
-          let run = h.is.runs y (omega (arith, ints, tall, left)) (omega (arith, ints, right)) in
-          run.below (subst (λ x. part_at features z.feature (at x y)) (ap (λ x. x -ℤ pos 1) rows.0) in_f)))
-          (λ m. omega (arith, ints, m, hl)) in
+          let rest = slab-rest i r s i_in r_in
+          (record { left = up-to r.x0 z.rect.x0 l; right = down-one z.rect.x0 r.x1 has.right; low = has.low; high = has.high }) in
+          let in_f = touching-in s q rest q_in (touch-upper_left z.rect.x0 z.rect.y1) in
+          let run = h.is.runs y (two-more h.stretch.x0 z.rect.y0 z.rect.y1 v.left tall) v.right in
+          run.below (subst (λ x. part_at features z.feature (at x y)) (ap (λ x. x -ℤ pos 1) rows.0) in_f)) in
           (i, (i, r, i_in, r_in, corner-same r.x0 r.y0 z.rect.x0 z.rect.y1 i column row))
 
     stand-kept : IsKeptZone spacing overlap layer (part_at features z.feature) z.rect → (side : ℕ × ℕ) × StandBeside pieces z side
@@ -317,15 +278,11 @@ module _ (spacing : Spacing) (overlap : ℕ) (layer : Region) (features pieces :
         let x : r.x1 ≡ z.rect.x0 = ap (λ t. let u : Corner = t in u.x) is in
         let y : r.y0 ≡ z.rect.y0 = ap (λ t. let u : Corner = t in u.y) is in
         let s = slab-solid i r i_in r_in in
-        let sw = s.wide in
-        let st = s.tall in
-        let zw = solid.0 in
-        let zt = solid.1 in
         let p : Pt = at (r.x1 -ℤ pos 1) r.y0 in
         let q : Pt = at z.rect.x0 z.rect.y0 in
         let p_in : part_at pieces i p = Covers-member (get_or pieces i []) r p r_in
-        (record { left = omega (arith, ints, sw); right = omega (arith, ints); low = omega (arith, ints); high = st }) in
-        let q_in : Has z.rect q = record { left = omega (arith, ints); right = zw; low = omega (arith, ints); high = zt } in
+        (record { left = up-to r.x0 r.x1 s.wide; right = before-it r.x1; low = self r.y0; high = s.tall }) in
+        let q_in : Has z.rect q = record { left = self z.rect.x0; right = solid.0; low = self z.rect.y0; high = solid.1 } in
         subst (λ n. (n < length pieces) × IsFirstSide (part_at pieces n) z.rect) same (
           i_in,
           (
@@ -333,9 +290,8 @@ module _ (spacing : Spacing) (overlap : ℕ) (layer : Region) (features pieces :
             q,
             p_in,
             q_in,
-            Touch-from_close p q (omega (arith, ints, x)) (omega (arith, ints, x)) (omega (arith, ints, y))
-                (omega (arith, ints, y)),
-            inl (omega (arith, ints, x)),
+            near-left r.x1 r.y0 z.rect.x0 z.rect.y0 x y,
+            inl (same-before r.x1 z.rect.x0 x),
           ),
         )
 
@@ -345,15 +301,11 @@ module _ (spacing : Spacing) (overlap : ℕ) (layer : Region) (features pieces :
         let x : r.x0 ≡ z.rect.x0 = ap (λ t. let u : Corner = t in u.x) is in
         let y : r.y1 ≡ z.rect.y0 = ap (λ t. let u : Corner = t in u.y) is in
         let s = slab-solid i r i_in r_in in
-        let sw = s.wide in
-        let st = s.tall in
-        let zw = solid.0 in
-        let zt = solid.1 in
         let p : Pt = at r.x0 (r.y1 -ℤ pos 1) in
         let q : Pt = at z.rect.x0 z.rect.y0 in
         let p_in : part_at pieces i p = Covers-member (get_or pieces i []) r p r_in
-        (record { left = omega (arith, ints); right = sw; low = omega (arith, ints, st); high = omega (arith, ints) }) in
-        let q_in : Has z.rect q = record { left = omega (arith, ints); right = zw; low = omega (arith, ints); high = zt } in
+        (record { left = self r.x0; right = s.wide; low = up-to r.y0 r.y1 s.tall; high = before-it r.y1 }) in
+        let q_in : Has z.rect q = record { left = self z.rect.x0; right = solid.0; low = self z.rect.y0; high = solid.1 } in
         subst (λ n. (n < length pieces) × IsFirstSide (part_at pieces n) z.rect) same (
           i_in,
           (
@@ -361,9 +313,8 @@ module _ (spacing : Spacing) (overlap : ℕ) (layer : Region) (features pieces :
             q,
             p_in,
             q_in,
-            Touch-from_close p q (omega (arith, ints, x)) (omega (arith, ints, x)) (omega (arith, ints, y))
-                (omega (arith, ints, y)),
-            inr (omega (arith, ints, y)),
+            near-below r.x0 r.y1 z.rect.x0 z.rect.y0 x y,
+            inr (same-before r.y1 z.rect.y0 y),
           ),
         )
 
@@ -373,14 +324,10 @@ module _ (spacing : Spacing) (overlap : ℕ) (layer : Region) (features pieces :
         let x : r.x0 ≡ z.rect.x1 = ap (λ t. let u : Corner = t in u.x) is in
         let y : r.y0 ≡ z.rect.y0 = ap (λ t. let u : Corner = t in u.y) is in
         let s = slab-solid i r i_in r_in in
-        let sw = s.wide in
-        let st = s.tall in
-        let zw = solid.0 in
-        let zt = solid.1 in
         let p : Pt = at r.x0 r.y0 in
         let q : Pt = at (z.rect.x1 -ℤ pos 1) z.rect.y0 in
-        let p_in : part_at pieces i p = Covers-member (get_or pieces i []) r p r_in (record { left = omega (arith, ints); right = sw; low = omega (arith, ints); high = st }) in
-        let q_in : Has z.rect q = record { left = omega (arith, ints, zw); right = omega (arith, ints); low = omega (arith, ints); high = zt } in
+        let p_in : part_at pieces i p = Covers-member (get_or pieces i []) r p r_in (record { left = self r.x0; right = s.wide; low = self r.y0; high = s.tall }) in
+        let q_in : Has z.rect q = record { left = up-to z.rect.x0 z.rect.x1 solid.0; right = before-it z.rect.x1; low = self z.rect.y0; high = solid.1 } in
         subst (λ n. (n < length pieces) × IsSecondSide (part_at pieces n) z.rect) same (
           i_in,
           (
@@ -388,9 +335,8 @@ module _ (spacing : Spacing) (overlap : ℕ) (layer : Region) (features pieces :
             q,
             p_in,
             q_in,
-            Touch-from_close p q (omega (arith, ints, x)) (omega (arith, ints, x)) (omega (arith, ints, y))
-                (omega (arith, ints, y)),
-            inl (omega (arith, ints, x)),
+            near-right r.x0 r.y0 z.rect.x1 z.rect.y0 x y,
+            inl (same-from r.x0 z.rect.x1 x),
           ),
         )
 
@@ -400,14 +346,10 @@ module _ (spacing : Spacing) (overlap : ℕ) (layer : Region) (features pieces :
         let x : r.x0 ≡ z.rect.x0 = ap (λ t. let u : Corner = t in u.x) is in
         let y : r.y0 ≡ z.rect.y1 = ap (λ t. let u : Corner = t in u.y) is in
         let s = slab-solid i r i_in r_in in
-        let sw = s.wide in
-        let st = s.tall in
-        let zw = solid.0 in
-        let zt = solid.1 in
         let p : Pt = at r.x0 r.y0 in
         let q : Pt = at z.rect.x0 (z.rect.y1 -ℤ pos 1) in
-        let p_in : part_at pieces i p = Covers-member (get_or pieces i []) r p r_in (record { left = omega (arith, ints); right = sw; low = omega (arith, ints); high = st }) in
-        let q_in : Has z.rect q = record { left = omega (arith, ints); right = zw; low = omega (arith, ints, zt); high = omega (arith, ints) } in
+        let p_in : part_at pieces i p = Covers-member (get_or pieces i []) r p r_in (record { left = self r.x0; right = s.wide; low = self r.y0; high = s.tall }) in
+        let q_in : Has z.rect q = record { left = self z.rect.x0; right = solid.0; low = up-to z.rect.y0 z.rect.y1 solid.1; high = before-it z.rect.y1 } in
         subst (λ n. (n < length pieces) × IsSecondSide (part_at pieces n) z.rect) same (
           i_in,
           (
@@ -415,9 +357,8 @@ module _ (spacing : Spacing) (overlap : ℕ) (layer : Region) (features pieces :
             q,
             p_in,
             q_in,
-            Touch-from_close p q (omega (arith, ints, x)) (omega (arith, ints, x)) (omega (arith, ints, y))
-                (omega (arith, ints, y)),
-            inr (omega (arith, ints, y)),
+            near-above r.x0 r.y0 z.rect.x0 z.rect.y1 x y,
+            inr (same-from r.y0 z.rect.y1 y),
           ),
         )
 

@@ -17,7 +17,7 @@ use Rattle.dpl_spec_split.specs.declared.Rect.{Rect}
 use Rattle.dpl_spec_split.specs.declared.Zone.{Zone}
 use Rattle.dpl_sides.proofs.CornerLaws.{Contains-map, map-Contains}
 use Rattle.dpl_sides.specs.Pieces.{zone_at, rect_at}
-use Rattle.dpl_piece.specs.Pieces.{feature_at, AreHolesOf, AreZonesFrom}
+use Rattle.dpl_piece.specs.Pieces.{feature_at, AreHolesOf, AreZonesFrom, AreZonesOf}
 
 -- each number below n, and no other
 abbrev pub AreNumbersBelow : ℕ → List ℕ → Type 0
@@ -153,6 +153,24 @@ module _ (zones : List Zone) (sorted : List ℕ) (place m f : ℕ) (h : AreZones
   pub zones-later : AreZonesFrom zones (f + 1) (drop m (drop place sorted))
   zones-later = rw (drop-drop m place sorted) (zones-past zones sorted 0 (place + m) f h (omega arith) low high)
 
+-- the rectangles of a feature's zones
+module _ (zones : List Zone) (n : ℕ) (own : List ℕ) (are : AreZonesOf zones n own) where
+  pub zones-known : All (λ j. j < length zones) own
+  zones-known i d i_in = ((are (get_or own i d)).0 (Contains-get_or own i d i_in)).0
+
+  pub zones-holes : AreHolesOf zones n (map (rect_at zones) own)
+  zones-holes r = (
+    λ r_in. (let (j, j_in, is) = Contains-map (rect_at zones) own r r_in in
+        let (known, mine) = (are j).0 j_in in
+        (zone_at zones j, (j, known, get_or_default zones j (zone_at zones j) (zone_at [] 0) known), mine, is)),
+    λ (z, (j, j_in, z_is), mine, is). (
+        let at : zone_at zones j ≡ z = get_or_default zones j (zone_at [] 0) z j_in ∙ z_is in
+        let feature : feature_at zones j ≡ n = ap (λ y. let u : Zone = y in u.feature) at ∙ mine in
+        subst (Contains (map (rect_at zones) own)) (ap (λ y. let u : Zone = y in u.rect) at ∙ is)
+        (map-Contains (rect_at zones) own j ((are j).1 (j_in, feature)))),
+  )
+
+-- the zones of the first of some features, which come first
 module _ (zones : List Zone) (rest : List ℕ) (n m : ℕ) (h : AreZonesFrom zones n rest)
     (own : All (λ j. feature_at zones j ≡ n) (take m rest)) (next : m < length rest → (d : ℕ) → feature_at zones (get_or rest m d) ≢ n) where
   pub zones-after : AreZonesFrom zones (n + 1) (drop m rest)
@@ -173,17 +191,14 @@ module _ (zones : List Zone) (rest : List ℕ) (n m : ℕ) (h : AreZonesFrom zon
   pub own-feature : (j : ℕ) → Contains (take m rest) j → feature_at zones j ≡ n
   own-feature j j_in = All-contains (λ i. feature_at zones i ≡ n) (take m rest) j own j_in
 
-  pub own-holes : AreHolesOf zones n (map (rect_at zones) (take m rest))
-  own-holes r = (
-    λ r_in. (let (j, j_in, is) = Contains-map (rect_at zones) (take m rest) r r_in in
-        let known = ((h.members j).0 (in-rest rest m j (inl j_in))).0 in
-        (zone_at zones j, (j, known, get_or_default zones j (zone_at zones j) (zone_at [] 0) known), All-contains (λ i. feature_at zones i ≡ n) (take m rest) j own j_in, is)),
-    λ (z, (j, j_in, z_is), mine, is). (
-        let at : zone_at zones j ≡ z = get_or_default zones j (zone_at [] 0) z j_in ∙ z_is in
-        let feature : feature_at zones j ≡ n = ap (λ y. let u : Zone = y in u.feature) at ∙ mine in
-        subst (Contains (map (rect_at zones) (take m rest))) (ap (λ y. let u : Zone = y in u.rect) at ∙ is)
-        (map-Contains (rect_at zones) (take m rest) j (own-there j j_in feature))),
+  pub own-zones : AreZonesOf zones n (take m rest)
+  own-zones j = (
+    λ j_in. (((h.members j).0 (in-rest rest m j (inl j_in))).0, own-feature j j_in),
+    λ (j_in, of). own-there j j_in of,
   )
+
+  pub own-holes : AreHolesOf zones n (map (rect_at zones) (take m rest))
+  own-holes = zones-holes zones n (take m rest) own-zones
 
 -- one more of a list that is gone through
 pub turn : (xs done rest later : List (List Rect)) (x : List Rect) (n : ℕ) → done ++ rest ≡ xs → rest ≡ x ∷ later → n ≡ length done

@@ -4,3 +4,4 @@ pub mod Made
 pub mod Wholes
 pub mod View
 pub mod Bars
+pub mod Adding

@@ -23,6 +23,10 @@ pub record AreZonesFrom (zones : List Zone) (n : ℕ) (rest : List ℕ) : Type 0
   pub rise : IsNonDecreasingBy (feature_at zones) rest
   pub members : (j : ℕ) → Contains rest j ↔ ((j < length zones) × (n ≤ feature_at zones j))
 
+-- the numbers of feature n's zones, and no other
+abbrev pub AreZonesOf : List Zone → ℕ → List ℕ → Type 0
+AreZonesOf zones n own = (j : ℕ) → Contains own j ↔ ((j < length zones) × (feature_at zones j ≡ n))
+
 -- the rectangles of feature n's zones
 abbrev pub AreHolesOf : List Zone → ℕ → List Rect → Type 0
 AreHolesOf zones n holes = (r : Rect) → Contains holes r ↔ ((z : Zone) × Contains zones z × (z.feature ≡ n) × (z.rect ≡ r))

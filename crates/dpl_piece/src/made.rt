@@ -1,15 +1,16 @@
 //! What zones leave of features, made by workers before the features' turn.
-ghost use Rattle.std.specs.Prelude.{◌≡◌, ◌≢◌, ◌+◌, ◌-◌, ◌++◌, ◌<◌, ◌≤◌, ◌↔◌, ◌⊎◌, List, IsTrue, IfOk, IfSome, OnOk, length, map, slice_index_or};
+ghost use Rattle.std.specs.Prelude.{◌≡◌, ◌≢◌, ◌+◌, ◌-◌, ◌++◌, ◌<◌, ◌≤◌, ◌↔◌, ◌⊎◌, List, [], IsTrue, IfOk, IfSome, OnOk, length, map, slice_index_or};
 ghost use Rattle.std.specs.List.{All};
 ghost use Rattle.dpl_spec_split.specs.declared.Rect.{Rect as RectOf};
 ghost use Rattle.dpl_spec_split.specs.declared.Zone.{Zone as ZoneOf};
 ghost use Rattle.dpl_spec_split.specs.Loops.{farthest, AreRectsWithin};
 ghost use Rattle.dpl_piece.specs.Cutting.{AreFeatures, AreTheirZones};
 ghost use Rattle.dpl_sides.specs.declared.standing.Side.TheVariants.{Before, After};
+ghost use Rattle.dpl_sides.specs.Noted.{AreSidesOf, StandsAfterFrom, StandsBeforeFrom};
 ghost use Rattle.dpl_sides.specs.Sided.{numbers_in, on_side, sides_in};
 ghost use Rattle.dpl_piece.specs.Made.{AreMade, AreMadeOf, IsMade};
-ghost use Rattle.dpl_sides.specs.Pieces.{rect_at};
-ghost use Rattle.dpl_piece.specs.Pieces.{broken_piece, feature_at, AreBroken, AreZonesFrom};
+ghost use Rattle.dpl_sides.specs.Pieces.{parts_in, rect_at};
+ghost use Rattle.dpl_piece.specs.Pieces.{broken_piece, feature_at, AddsBroken, AreBroken, AreZonesFrom};
 
 use crate::bar::bar_parts;
 use crate::own::{feature_of, holes_at, own_count, rest_from, short_numbers, zones_at};
@@ -68,6 +69,42 @@ pub fn broken(alloc: Global, feature: &Slabs, holes: Vec<Rect>) -> Result<Vec<Sl
     Ok(parts.into_vec())
 }
 
+/// The pieces into which holes break a feature.
+fn broken_pieces(
+    alloc: Global,
+    feature: &Slabs,
+    holes: Vec<Rect>,
+    number: Id,
+) -> Result<Vec<Piece>, AllocError>
+    requires { AreRectsWithin farthest holes.items }
+    ensures { IfOk result (λ v. AddsBroken feature.now holes.items number [] v.items) }
+{
+    let parts = broken(alloc, feature, holes)?;
+    let mut pieces = Vec::with_capacity(alloc, parts.len())?;
+    add_parts(&mut pieces, parts, number)?;
+    Ok(pieces)
+}
+
+/// The zones of these numbers, which are all those of a feature, with its pieces on their two sides, by so many threads.
+fn sided<R: Threads>(
+    rt: &R,
+    alloc: Global,
+    zones: &[Zone],
+    own: &[u32],
+    pieces: &[Piece],
+    threads: usize,
+) -> Result<Vec<Sided>, AllocError>
+    requires { All (λ j. j < length zones.now) own.now }
+    ensures own { IfOk result (λ v. numbers_in v.items ≡ own.now) }
+    ensures firsts { IfOk result (λ v. AreSidesOf (StandsBeforeFrom (parts_in pieces.now) 0) zones.now own.now (sides_in Before v.items)) }
+    ensures seconds { IfOk result (λ v. AreSidesOf (StandsAfterFrom (parts_in pieces.now) 0) zones.now own.now (sides_in After v.items)) }
+{
+    let own_zones = zones_at(alloc, zones, own)?;
+    let numbers = short_numbers(alloc, own.len())?;
+    let noted = sides_of(rt, alloc, &own_zones, &numbers, pieces, threads)?;
+    with_sides(alloc, own, &noted.firsts, &noted.seconds)
+}
+
 /// What the zones of these numbers, which are all those of a feature, make of it, by so many threads.
 fn made_of<R: Threads>(
     rt: &R,
@@ -84,16 +121,13 @@ fn made_of<R: Threads>(
     ensures own { IfOk result (λ m. numbers_in m.zones.items ≡ own.now) }
     ensures breaks { IfOk result (AreMadeOf feature.now zones.now) }
 {
-    let parts = broken(alloc, feature, holes_at(alloc, zones, own)?)?;
-    let mut pieces = Vec::with_capacity(alloc, parts.len())?;
-    add_parts(&mut pieces, parts, number)?;
-    let own_zones = zones_at(alloc, zones, own)?;
-    let numbers = short_numbers(alloc, own.len())?;
-    let noted = sides_of(rt, alloc, &own_zones, &numbers, &pieces, threads)?;
+    let holes = holes_at(alloc, zones, own)?;
+    let pieces = broken_pieces(alloc, feature, holes, number)?;
+    let zones = sided(rt, alloc, zones, own, &pieces, threads)?;
     Ok(Made {
         feature: number,
         pieces,
-        zones: with_sides(alloc, own, &noted.firsts, &noted.seconds)?,
+        zones,
     })
 }
 
@@ -182,6 +216,28 @@ fn made_from<R: Threads>(
     Ok(made)
 }
 
+/// Adds a pile, unless it has no feature.
+fn add_some(made: &mut Vec<Pile>, pile: Pile) -> Result<(), AllocError>
+    ensures { OnOk result ((features : List (List RectOf)) (zones : List ZoneOf) → AreMade features zones pile → All (AreMade features zones) made.old.items → All (AreMade features zones) made.new.items) }
+{
+    if pile.last().is_some() {
+        made.push(pile)?;
+    }
+    Ok(())
+}
+
+/// Those of the piles that have a feature, the last of them first.
+fn gathered(alloc: Global, piles: Vec<Result<Pile, AllocError>>) -> Result<Vec<Pile>, AllocError>
+    ensures { IfOk result (λ v. (features : List (List RectOf)) (zones : List ZoneOf) → All (λ r. IfOk r (AreMade features zones)) piles.items → All (AreMade features zones) v.items) }
+{
+    let mut made = Vec::new(alloc);
+    for pile in piles {
+        add_some(&mut made, pile?)?;
+    }
+    made.reverse();
+    Ok(made)
+}
+
 /// The pieces of the features with zones, made by so many workers, each of which has as many zones. The pile of the last features comes first; one without a feature, as of a worker that has a part of a feature's zones alone, is left out.
 pub fn made_by<R: Threads + Sync>(
     rt: &R,
@@ -206,15 +262,7 @@ pub fn made_by<R: Threads + Sync>(
         size,
         &|place, chunk| { made_from(rt, alloc, features, zones, sorted, place, chunk.len()) },
     )?;
-    let mut made = Vec::new(alloc);
-    for pile in piles {
-        let pile = pile?;
-        if pile.last().is_some() {
-            made.push(pile)?;
-        }
-    }
-    made.reverse();
-    Ok(made)
+    gathered(alloc, piles)
 }
 
 /// Takes what was made of a feature, where that is what the last pile has last. A pile of which all is taken goes.

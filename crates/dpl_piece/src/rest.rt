@@ -1,5 +1,5 @@
 //! What zones leave of features.
-ghost use Rattle.std.specs.Prelude.{◌≡◌, ℕ, ◌<◌, ◌++◌, ◌∷◌, [], List, IfOk, OnOk, length, map};
+ghost use Rattle.std.specs.Prelude.{◌≡◌, ℕ, ◌<◌, ◌++◌, ◌∷◌, [], List, IfOk, OnOk, length, map, slice_index_or};
 ghost use Rattle.std.specs.List.{All, AllZip};
 ghost use Rattle.std.specs.List.Sorted.{IsPermutation};
 ghost use Rattle.dpl_spec_split.specs.declared.Rect.{Rect as RectOf};
@@ -11,15 +11,16 @@ ghost use Rattle.dpl_sides.specs.Sided.{numbers_in, sides_in};
 ghost use Rattle.dpl_piece.specs.Made.{AreLeft, AreMade};
 ghost use Rattle.dpl_sides.specs.Noted.{AreMoved, IsSortedWith};
 ghost use Rattle.dpl_sides.specs.Pieces.{least_key, rect_at, parts_in, RiseByLeast};
-ghost use Rattle.dpl_piece.specs.Pieces.{AddsPieces, AreCut, AreZonesFrom};
-ghost use Rattle.dpl_piece.specs.Wholes.{whole_of, AreWholes, KeepsWhole};
+ghost use Rattle.dpl_piece.specs.Adding.{AddsFeature, AddsMade, IsUncut};
+ghost use Rattle.dpl_piece.specs.Pieces.{AddsPieces, AreCut, AreZonesFrom, AreZonesOf};
+ghost use Rattle.dpl_piece.specs.Wholes.{AreWholes, KeepsWhole};
 
 use crate::made::{Made, add_parts, broken, taken};
 use crate::own::{holes_at, own_count};
 use crate::piece::{CutUp, Whole};
 use crate::pile::Pile;
 use dpl_base::{Id, Zone};
-use dpl_sides::{Noted, Origin, Piece, Side, note_moved, note_sides, sort_with_sides};
+use dpl_sides::{Noted, Origin, Piece, Side, Sided, note_moved, note_sides, sort_with_sides};
 use dpl_slabs::Slabs;
 use std::alloc::{AllocError, Global};
 
@@ -69,30 +70,118 @@ fn add_pieces(
     Ok(())
 }
 
-/// Adds the pieces of a feature that zones broke, as they were made before, and notes those on the two sides of its zones. The feature is kept.
-fn add_made(
-    pieces: &mut Vec<Piece>,
-    wholes: &mut Vec<Whole>,
-    noted: &mut Noted,
-    feature: Slabs,
-    mut made: Made,
-) -> Result<(), AllocError>
-    requires firsts { All (λ j. j < length noted.old.firsts.items) (numbers_in made.zones.items) }
-    requires seconds { All (λ j. j < length noted.old.seconds.items) (numbers_in made.zones.items) }
-    ensures adds { OnOk result (pieces.new.items ≡ pieces.old.items ++ made.pieces.items) }
-    ensures keeps { OnOk result (wholes.new.items ≡ wholes.old.items ++ whole_of made.feature feature ∷ []) }
-    ensures firsts { OnOk result (AreMoved (length pieces.old.items) (numbers_in made.zones.items) (sides_in Before made.zones.items) noted.old.firsts.items noted.new.firsts.items) }
-    ensures seconds { OnOk result (AreMoved (length pieces.old.items) (numbers_in made.zones.items) (sides_in After made.zones.items) noted.old.seconds.items noted.new.seconds.items) }
+/// The pieces of the features so far, those of these features that were cut, and the pieces noted for the zones.
+#[derive(Drop)]
+struct Cutting {
+    pieces: Vec<Piece>,
+    wholes: Vec<Whole>,
+    noted: Noted,
+}
+
+/// Notes the pieces on the two sides of a feature's zones, of which the first is number `from`.
+fn note_made(noted: &mut Noted, zones: &[Sided], from: usize) -> Result<(), AllocError>
+    requires firsts { All (λ j. j < length noted.old.firsts.items) (numbers_in zones.now) }
+    requires seconds { All (λ j. j < length noted.old.seconds.items) (numbers_in zones.now) }
+    ensures firsts { OnOk result (AreMoved from (numbers_in zones.now) (sides_in Before zones.now) noted.old.firsts.items noted.new.firsts.items) }
+    ensures seconds { OnOk result (AreMoved from (numbers_in zones.now) (sides_in After zones.now) noted.old.seconds.items noted.new.seconds.items) }
 {
-    let from = pieces.len();
-    note_moved(&mut noted.firsts, &made.zones, Side::Before, from)?;
-    note_moved(&mut noted.seconds, &made.zones, Side::After, from)?;
-    pieces.append(&mut made.pieces)?;
-    wholes.push(Whole {
-        feature: made.feature,
-        set: feature,
-    })?;
-    Ok(())
+    note_moved(&mut noted.firsts, zones, Side::Before, from)?;
+    note_moved(&mut noted.seconds, zones, Side::After, from)
+}
+
+impl Cutting {
+    /// No piece, with room for so many, and nothing noted of so many zones.
+    fn new(alloc: Global, room: usize, zones: usize) -> Result<Cutting, AllocError>
+        ensures { IfOk result (IsUncut zones) }
+    {
+        let noted = Noted::new(alloc, zones)?;
+        Ok(Cutting {
+            pieces: Vec::with_capacity(alloc, room)?,
+            wholes: Vec::new(alloc),
+            noted,
+        })
+    }
+
+    /// Adds the pieces of a feature that zones broke, as they were made before, and notes those on the two sides of its zones. The feature is kept.
+    fn add_made(&mut self, feature: Slabs, mut made: Made) -> Result<(), AllocError>
+        requires firsts { All (λ j. j < length self.old.noted.firsts.items) (numbers_in made.zones.items) }
+        requires seconds { All (λ j. j < length self.old.noted.seconds.items) (numbers_in made.zones.items) }
+        ensures { OnOk result (AddsMade feature made self.old self.new) }
+    {
+        note_made(&mut self.noted, &made.zones, self.pieces.len())?;
+        self.pieces.append(&mut made.pieces)?;
+        self.wholes.push(Whole {
+            feature: made.feature,
+            set: feature,
+        })?;
+        Ok(())
+    }
+
+    /// Adds the pieces into which its own zones break a feature, and notes those on the two sides of these.
+    fn add_cut(
+        &mut self,
+        alloc: Global,
+        feature: Slabs,
+        number: Id,
+        zones: &[Zone],
+        own: &[u32],
+    ) -> Result<(), AllocError>
+        requires known { All (λ j. j < length zones.now) own.now }
+        requires within { AreRectsWithin farthest (map (rect_at zones.now) own.now) }
+        requires firsts { length self.old.noted.firsts.items ≡ length zones.now }
+        requires seconds { length self.old.noted.seconds.items ≡ length zones.now }
+        ensures { OnOk result (AddsFeature feature zones.now own.now number self.old self.new) }
+    {
+        let parts = parts_of(alloc, &feature, zones, own)?;
+        let from = self.pieces.len();
+        add_pieces(&mut self.pieces, &mut self.wholes, feature, parts, number)?;
+        note_sides(&mut self.noted, zones, own, &self.pieces, from)
+    }
+
+    /// Adds the pieces of a feature with these zones: those that were made before, or else those into which it is cut now.
+    fn add(
+        &mut self,
+        alloc: Global,
+        feature: Slabs,
+        number: Id,
+        zones: &[Zone],
+        own: &[u32],
+        made: &mut Vec<Pile>,
+    ) -> Result<(), AllocError>
+        requires own { AreZonesOf zones.now number own.now }
+        requires within { AreRectsWithin farthest (map (rect_at zones.now) own.now) }
+        requires made { (features : List (List RectOf)) × (slice_index_or features number [] ≡ feature) × All (AreMade features zones.now) made.old.items }
+        requires firsts { length self.old.noted.firsts.items ≡ length zones.now }
+        requires seconds { length self.old.noted.seconds.items ≡ length zones.now }
+        ensures adds { OnOk result (AddsFeature feature zones.now own.now number self.old self.new) }
+        ensures made { OnOk result ((features : List (List RectOf)) → All (AreMade features zones.now) made.old.items → All (AreMade features zones.now) made.new.items) }
+    {
+        match taken(made, number)? {
+            Some(made) => self.add_made(feature, made),
+            None => self.add_cut(alloc, feature, number, zones, own),
+        }
+    }
+
+    /// The pieces, sorted and numbered, those on the two sides of each zone, and the features that were cut.
+    fn sorted(self, alloc: Global) -> Result<CutUp, AllocError>
+        requires each { length self.noted.seconds.items ≡ length self.noted.firsts.items }
+        requires firsts { All (λ k. k < length self.pieces.items) self.noted.firsts.items }
+        requires seconds { All (λ k. k < length self.pieces.items) self.noted.seconds.items }
+        ensures sorted { IfOk result (λ v. IsSortedWith self.pieces.items v.pieces.items self.noted.firsts.items self.noted.seconds.items v.sides.items) }
+        ensures wholes { IfOk result (λ v. v.wholes.items ≡ self.wholes.items) }
+    {
+        let Cutting {
+            mut pieces,
+            wholes,
+            noted,
+        } = self;
+        let sides = sort_with_sides(alloc, &mut pieces, noted)?;
+        Ok(CutUp {
+            pieces,
+            wholes,
+            sides,
+        })
+    }
 }
 
 /// The components of what the zones leave of the features, each with the feature that it lies in, and those on the two sides of each zone. A feature without a zone is moved, as it is; any other is cut by its own zones, feature by feature, where that wasn't done before. The numbers of the zones are given by feature.
@@ -112,30 +201,15 @@ pub fn pieces_of(
     ensures wholes { IfOk result (λ v. AreWholes features.items zones.now v.wholes.items) }
     ensures sides { IfOk result (λ v. AllZip (StandBeside (parts_in v.pieces.items)) zones.now v.sides.items) }
 {
-    let count = features.len().saturating_add(zones.len());
-    let mut pieces = Vec::with_capacity(alloc, count)?;
-    let mut wholes = Vec::new(alloc);
-    let mut noted = Noted::new(alloc, zones.len())?;
+    let room = features.len().saturating_add(zones.len());
+    let mut cutting = Cutting::new(alloc, room, zones.len())?;
     let mut rest = sorted.as_slice();
     let mut number = 0;
     for feature in features {
         let (own, others) = rest.split_at(own_count(zones, rest, number));
+        cutting.add(alloc, feature, number, zones, own, &mut made)?;
         rest = others;
-        let this = number;
         number += 1;
-        if let Some(made) = taken(&mut made, this)? {
-            add_made(&mut pieces, &mut wholes, &mut noted, feature, made)?;
-            continue;
-        }
-        let parts = parts_of(alloc, &feature, zones, own)?;
-        let from = pieces.len();
-        add_pieces(&mut pieces, &mut wholes, feature, parts, this)?;
-        note_sides(&mut noted, zones, own, &pieces, from)?;
     }
-    let sides = sort_with_sides(alloc, &mut pieces, noted)?;
-    Ok(CutUp {
-        pieces,
-        wholes,
-        sides,
-    })
+    cutting.sorted(alloc)
 }

@@ -1,7 +1,8 @@
 use Rattle.std.proofs.Common.{◌≡◌, ◌∷◌, [], ◌++◌, take, refl, arith}
 use Rattle.std.proofs.lemmas.List.{map_push, take_all}
+use Rattle.std.proofs.lemmas.List.Elements.{Contains-get_or}
 use Rattle.std.proofs.lemmas.Result.{IfOk-from_err}
-use Rattle.dpl_piece.proofs.Bars.{alone, bars-broken, bars-none, bars-step}
+use Rattle.dpl_piece.proofs.Bars.{alone, are-cut, bars-broken, bars-none, bars-step}
 use Rattle.dpl_piece.proofs.bar.bar_parts.Goals as goal
 
 pub loop-hole-init : goal.loop-hole-init
@@ -37,3 +38,22 @@ returns-in_err-part-2 c = IfOk-from_err _ _ c.from_residual-in_err-part-2.ensure
 
 pub returns-in_err-push-2 : goal.returns-in_err-push-2
 returns-in_err-push-2 c = IfOk-from_err _ _ c.from_residual-in_err-push-2.ensures.0
+
+pub returns-in_default : goal.returns-in_default
+returns-in_default c = tt
+
+pub one-requires-clause-solid : goal.one-requires-clause-solid
+one-requires-clause-solid c =
+    (are-cut c.loop-hole.rest _ c.in-Some.next.before c.in-Some.next.after c.loop-hole.invariant.bars.rest_solid c.loop-hole.invariant.bars.rest_within (c.requires.holes _ (Contains-get_or
+    c.args.holes.now c.loop-hole.hole-index _ c.loop-hole-test.true)) c.in-Some.ensures).before_solid
+
+pub one-requires-clause-within : goal.one-requires-clause-within
+one-requires-clause-within c =
+    (are-cut c.loop-hole.rest _ c.in-Some.next.before c.in-Some.next.after c.loop-hole.invariant.bars.rest_solid c.loop-hole.invariant.bars.rest_within (c.requires.holes _ (Contains-get_or
+    c.args.holes.now c.loop-hole.hole-index _ c.loop-hole-test.true)) c.in-Some.ensures).before_within
+
+pub one-requires-2-clause-solid : goal.one-requires-2-clause-solid
+one-requires-2-clause-solid c = c.loop-hole.invariant.bars.rest_solid
+
+pub one-requires-2-clause-within : goal.one-requires-2-clause-within
+one-requires-2-clause-within c = c.loop-hole.invariant.bars.rest_within

@@ -1,3 +1,4 @@
+use Rattle.std.proofs.Common.{refl}
 use Rattle.std.proofs.lemmas.Result.{IfOk-from_err}
 use Rattle.dpl_sides.specs.Corners.{StandBeside}
 use Rattle.dpl_sides.specs.Pieces.{parts_in}
@@ -61,3 +62,15 @@ returns-in_err-parts-clause-pieces c = IfOk-from_err _ _ c.from_residual-in_err-
 
 pub returns-in_err-parts-clause-stand : goal.returns-in_err-parts-clause-stand
 returns-in_err-parts-clause-stand c = IfOk-from_err _ _ c.from_residual-in_err-parts.ensures.0
+
+pub pieces_of-requires-clause-features : goal.pieces_of-requires-clause-features
+pieces_of-requires-clause-features c = rw c.into_vec.ensures.value c.requires.features
+
+pub pieces_of-requires-clause-zones : goal.pieces_of-requires-clause-zones
+pieces_of-requires-clause-zones c = rw (c.into_vec.ensures.value, c.deref.ensures.value) c.requires.zones
+
+pub pieces_of-requires-clause-sorted : goal.pieces_of-requires-clause-sorted
+pieces_of-requires-clause-sorted c = rw c.deref.ensures.value c.requires.sorted
+
+pub returns-clause-zones : goal.returns-clause-zones
+returns-clause-zones c = rw c.of.ensures refl

@@ -1,3 +1,5 @@
+use Rattle.std.proofs.lemmas.List.Elements.{All-nil}
+use Rattle.dpl_piece.specs.Made.{AreMade}
 use Rattle.std.proofs.lemmas.Result.{IfOk-from_err}
 use Rattle.dpl_piece.proofs.cut.bare_pieces.Goals as goal
 
@@ -18,3 +20,15 @@ returns-clause-pieces c = c.bare_of.ensures.pieces
 
 pub returns-clause-stand : goal.returns-clause-stand
 returns-clause-stand c = c.bare_of.ensures.stand
+
+pub bare_of-requires-clause-features : goal.bare_of-requires-clause-features
+bare_of-requires-clause-features c = c.requires.features
+
+pub bare_of-requires-clause-zones : goal.bare_of-requires-clause-zones
+bare_of-requires-clause-zones c = c.requires.zones
+
+pub bare_of-requires-clause-sorted : goal.bare_of-requires-clause-sorted
+bare_of-requires-clause-sorted c = rw c.deref.ensures.value at c.in_ok-sorted.ensures
+
+pub bare_of-requires-clause-made : goal.bare_of-requires-clause-made
+bare_of-requires-clause-made c = rw c.new.ensures.items (All-nil (AreMade c.args.features c.args.zones.items))

@@ -42,3 +42,27 @@ returns-clause-pieces g c = c.bare_of.ensures.pieces
 
 pub returns-clause-stand : goal.returns-clause-stand
 returns-clause-stand g c = c.bare_of.ensures.stand
+
+pub bare_pieces-requires-clause-features : goal.bare_pieces-requires-clause-features
+bare_pieces-requires-clause-features g c = c.requires.features
+
+pub bare_pieces-requires-clause-zones : goal.bare_pieces-requires-clause-zones
+bare_pieces-requires-clause-zones g c = c.requires.zones
+
+pub made_by-requires-clause-features : goal.made_by-requires-clause-features
+made_by-requires-clause-features g c κs within = rw c.items.ensures.value c.requires.features
+
+pub made_by-requires-clause-zones : goal.made_by-requires-clause-zones
+made_by-requires-clause-zones g c κs within = rw (c.items.ensures.value, c.deref-2.ensures.value) c.requires.zones
+
+pub made_by-requires-clause-sorted : goal.made_by-requires-clause-sorted
+made_by-requires-clause-sorted g c κs within = rw (c.deref-2.ensures.value, c.deref-3.ensures.value) (rw c.deref.ensures.value at c.in_ok-sorted.ensures)
+
+pub bare_of-requires-clause-features : goal.bare_of-requires-clause-features
+bare_of-requires-clause-features g c = c.requires.features
+
+pub bare_of-requires-clause-zones : goal.bare_of-requires-clause-zones
+bare_of-requires-clause-zones g c = c.requires.zones
+
+pub bare_of-requires-clause-sorted : goal.bare_of-requires-clause-sorted
+bare_of-requires-clause-sorted g c = rw c.deref.ensures.value at c.in_ok-sorted.ensures

@@ -16,8 +16,8 @@ invariant-loop-feature l =
       left : into_iter_len l.feature-iterator ≡ length (into_iter_items l.feature-iterator);
       count : l.number ≡ length l.yielded;
       zones : AreZonesFrom l.zones l.number l.rest;
-      pieces : ArePiecesBelow l.fn.features.items l.zones l.number l.pieces.items;
-      sides : AreSidedBelow l.zones l.number (parts_in l.pieces.items) l.noted.firsts.items l.noted.seconds.items;
-      wholes : AreWholesBelow l.fn.features.items l.zones l.number l.wholes.items;
+      pieces : ArePiecesBelow l.fn.features.items l.zones l.number l.cutting.pieces.items;
+      sides : AreSidedBelow l.zones l.number (parts_in l.cutting.pieces.items) l.cutting.noted.firsts.items l.cutting.noted.seconds.items;
+      wholes : AreWholesBelow l.fn.features.items l.zones l.number l.cutting.wholes.items;
       made : All (AreMade l.fn.features.items l.zones) l.made.items;
     }
