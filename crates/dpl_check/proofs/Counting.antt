@@ -1,5 +1,5 @@
 -- The counts of a layer's cut.
-use Rattle.std.proofs.Common.{◌≡◌, ℕ, ◌⊎◌, inl, inr, Bool, true, false, List, [], length, sym, ap, ◌∙◌}
+use Rattle.std.proofs.Common.{◌≡◌, ℕ, ◌⊎◌, inl, inr, Bool, true, false, List, [], length, refl, sym, ap, ◌∙◌}
 use Rattle.std.proofs.lemmas.Bool.{cases_eq}
 use Rattle.dpl_spec_split.specs.declared.Spacing.{Spacing}
 use Rattle.dpl_spec_split.specs.declared.Rect.{Rect}
@@ -11,10 +11,11 @@ use Rattle.dpl_spec_split.proofs.MarkLaws.{none-marked}
 use Rattle.dpl_spec_split.specs.Marks.{asked, AreMarks, Marks}
 use Rattle.dpl_spec_verdict.proofs.GainLaws.{one-cut}
 use Rattle.dpl_cert.specs.declared.cert.Head.{Head}
-use Rattle.dpl_spec_verdict.specs.Conflicts.{CountsDiffer}
+use Rattle.dpl_spec_verdict.specs.Conflicts.{Claim, CountsDiffer, VerdictFromCounts}
+use Rattle.dpl_spec_verdict.specs.declared.Verdict.{Verdict}
 use Rattle.dpl_cut.specs.declared.LayerCut.{LayerCut}
 use Rattle.dpl_piece.specs.View.{IsMarkedSet, cut_view}
-use Rattle.dpl_check.specs.Cutting.{HasOtherCounts}
+use Rattle.dpl_check.specs.Cutting.{HasOtherCounts, VerdictOfConflictByCut}
 
 -- the squares of two sets are marked
 pub marked-united : (a b both : List Rect) (marks : Option Marks) → AreSlabsOf (λ p. Covers a p ⊎ Covers b p) both → AreMarks a b marks → IsMarkedSet both marks
@@ -52,3 +53,14 @@ module _ (marks : Option Marks) (spacing : Spacing) (overlap : ℕ) (layer : Lis
       ]
     ]
   ]
+
+-- what is said by a cut of the layer is said of the layer
+pub verdict-by-cut : (marks : Option Marks) (spacing : Spacing) (overlap : ℕ) (claim : Claim) (c : LayerCut) (features : List (List Rect))
+    → length features ≡ c.features → IsCut marks spacing overlap (Covers claim.layer) (cut_view features c.pieces) → (v : Verdict)
+    → VerdictOfConflictByCut marks spacing c claim v → VerdictFromCounts marks spacing overlap claim v
+verdict-by-cut marks spacing overlap claim c features many is v (inl (other, shows)) = inl (
+  counts-differ marks spacing overlap claim.layer claim.head c features many is other,
+  (c.features, length c.pieces.parts, length c.pieces.zones, (cut_view features c.pieces, is, sym many, refl, refl), shows),
+)
+verdict-by-cut marks spacing overlap claim c features many is v (inr (same, told)) =
+    inr (counts-kept marks spacing overlap claim.layer claim.head c features many is same, (cut_view features c.pieces, is, told features))

@@ -10,3 +10,4 @@ pub mod Counting
 pub mod Around
 pub mod Marking
 pub mod Gaining
+pub mod Claiming

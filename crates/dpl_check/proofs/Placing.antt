@@ -1,6 +1,6 @@
 -- Places of a cycle, and the pieces that squares lie in.
-use Rattle.std.proofs.Common.{◌≡◌, ℕ, ◌+◌, ◌%◌, ◌<◌, inl, inr, true, false, List, [], length, get_or, Option, sym, ◌∙◌, subst, arith}
-use Rattle.std.specs.Prelude.{◌↔◌}
+use Rattle.std.proofs.Common.{◌≡◌, ℕ, ◌+◌, ◌%◌, ◌<◌, inl, inr, true, false, List, [], length, get_or, refl, not, eqb, eq-eqb, ne_eqb, Option, ap, sym, ◌∙◌, subst, arith}
+use Rattle.std.specs.Prelude.{◌↔◌, IsTrue}
 use Rattle.std.proofs.lemmas.Int.{ints}
 use Rattle.std.proofs.lemmas.Bool.{cases_eq, cases_lt, cases_order, false≢true}
 use Rattle.std.proofs.lemmas.List.{get_or_default, get_or_past}
@@ -22,9 +22,11 @@ use Rattle.dpl_cert.specs.declared.cert.PlaceLine.{PlaceLine}
 use Rattle.dpl_cert.specs.declared.cert.PlaceLine.TheVariants.{Piece, Anchor}
 use Rattle.dpl_spec_split.specs.Marks.{Marks}
 use Rattle.dpl_cert.specs.declared.cert.NearLine.{NearLine}
-use Rattle.dpl_spec_verdict.specs.Conflicts.{AreJoined, AreSame, IsBadPlace, IsNamed, place_at}
+use Rattle.dpl_cert.specs.declared.cert.NearLine.TheVariants.{Pair, Mark, Anchors}
+use Rattle.dpl_spec_split.specs.Decomposition.{Cut}
+use Rattle.dpl_spec_verdict.specs.Conflicts.{AreInConflict, AreJoined, AreSame, IsBadPlace, IsNamed, ShowsConflict, place_at}
 use Rattle.dpl_check.specs.declared.stood.Stood.{Stood}
-use Rattle.dpl_check.specs.Places.{AreNoted, HasNoted, IsBelow, bare, stood_at}
+use Rattle.dpl_check.specs.Places.{AreNoted, HasNoted, IsBelow, IsNearLine, bare, stood_at}
 use Rattle.dpl_check.proofs.Windows.{unit-only, unit-self}
 
 nothing : (p : Pt) → Covers [] p → ⊥
@@ -65,6 +67,34 @@ near-units spacing p q u v e f = (
       (subst (λ (x : Pt). Near spacing s x) (unit-only q t (subst (λ (w : Rect). Has w t) f t_in)) close),
   λ close. (p, q, subst (λ (w : Rect). Has w p) (sym e) (unit-self p), subst (λ (w : Rect). Has w q) (sym f) (unit-self q), close),
 )
+
+apart-test : (a b : ℕ) → IsTrue (not (eqb a b)) ↔ (a ≡ b → ⊥)
+apart-test a b = elim (cases_eq a b) [
+  | inl e ↦ (λ test. absurd (false≢true (sym (ap not (eq-eqb a b e)) ∙ test)), λ ne. absurd (ne e))
+  | inr ne ↦ (λ test. ne, λ other. ap not (ne_eqb a b ne))
+]
+
+-- a line shows a conflict by two squares alone
+module _ (spacing : Spacing) (cut : Cut) (i j : ℕ) (line : NearLine) where
+  unpaired : (l : NearLine) → ((p q : Pt) → l ≡ Pair p q → ⊥) → ShowsConflict spacing cut i j l → ⊥
+  unpaired (Pair from to) other shown = other from to refl
+  unpaired (Mark at) other shown = shown
+  unpaired Anchors other shown = shown
+
+  pub unpaired-none : ((p q : Pt) → line ≡ Pair p q → ⊥) → ShowsConflict spacing cut i j line → ⊥
+  unpaired-none other shown = unpaired line other shown
+
+  module _ (from to : Pt) (is : line ≡ Pair from to) where
+    pub pair-shown : ShowsConflict spacing cut i j line → IsNearLine spacing cut.pieces i j from to
+    pair-shown shown = let c : AreInConflict spacing cut i j from to = subst (λ l. ShowsConflict spacing cut i j l) is shown in
+        record { from = c.from; to = c.to; near = c.near }
+
+    pub near-shown : IsNearLine spacing cut.pieces i j from to → IsTrue (not (eqb (get_or cut.owners i 0) (get_or cut.owners j 0))) ↔ ShowsConflict spacing cut i j line
+    near-shown near = (
+      λ test. subst (λ l. ShowsConflict spacing cut i j l) (sym is)
+          (let c : AreInConflict spacing cut i j from to = record { from = near.from; to = near.to; near = near.near; apart = (apart-test _ _).0 test } in c),
+      λ shown. (let c : AreInConflict spacing cut i j from to = subst (λ l. ShowsConflict spacing cut i j l) is shown in (apart-test _ _).1 c.apart),
+    )
 
 -- what is named is below the count of pieces
 pub named-below : (marks : Option Marks) (pieces : CutPieces) (place : PlaceLine) → IsNamed marks (bare pieces) place → IsBelow (length pieces.parts) place

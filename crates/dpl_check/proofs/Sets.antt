@@ -17,7 +17,7 @@ use Rattle.dpl_spec_split.proofs.ComponentLaws.{components-unique}
 use Rattle.dpl_cert.specs.declared.cert.Head.{Head}
 use Rattle.dpl_spec_verdict.specs.Order.{HasSquare}
 use Rattle.dpl_spec_verdict.specs.Masks.{CountDiffers, is_doubled, is_uncovered}
-use Rattle.dpl_check.specs.Findings.{IsLeastOf, is_unlisted}
+use Rattle.dpl_check.specs.Findings.{IsLeastOf, is_in_one, is_unlisted}
 
 pub has_or_not : (r : Rect) (p : Pt) → Has r p ⊎ (Has r p → ⊥)
 has_or_not r p =
@@ -51,18 +51,29 @@ least-of a s None are none some = λ (p, p_in).
     Contains-nil found.0 found.1
 least-of a s (Some p) are none least = record { inside = (are.covers p).0 least.inside; first = λ q q_in. least.first q ((are.covers q).1 q_in) }
 
-pub uncovered-are : (layer a b masks missing added all : List Rect) → AreSlabsOf (λ p. Covers a p ⊎ Covers b p) masks → AreSlabsOf (λ p. Covers layer p × ¬ Covers masks p) missing
-    → AreSlabsOf (λ p. Covers masks p × ¬ Covers layer p) added → AreSlabsOf (λ p. Covers missing p ⊎ Covers added p) all → AreSlabsOf (is_uncovered layer a b) all
-uncovered-are layer a b masks missing added all m l n s = record {
+-- what one set has and the other hasn't, put together
+pub difference-are : (layer masks missing added all : List Rect) → AreSlabsOf (λ p. Covers layer p × ¬ Covers masks p) missing
+    → AreSlabsOf (λ p. Covers masks p × ¬ Covers layer p) added → AreSlabsOf (λ p. Covers missing p ⊎ Covers added p) all → AreSlabsOf (is_in_one layer masks) all
+difference-are layer masks missing added all l n s = record {
+  canonical = s.canonical;
+  covers = λ p. (
+    λ h. elim ((s.covers p).0 h) [ inl one ↦ inl ((l.covers p).0 one) | inr one ↦ inr ((n.covers p).0 one) ],
+    λ h. (s.covers p).1 (elim h [ inl one ↦ inl ((l.covers p).1 one) | inr one ↦ inr ((n.covers p).1 one) ]),
+  );
+}
+
+pub uncovered-are : (layer a b masks all : List Rect) → AreSlabsOf (λ p. Covers a p ⊎ Covers b p) masks → AreSlabsOf (is_in_one layer masks) all
+    → AreSlabsOf (is_uncovered layer a b) all
+uncovered-are layer a b masks all m s = record {
   canonical = s.canonical;
   covers = λ p. (
     λ h. elim ((s.covers p).0 h) [
-      | inl one ↦ (let (in_layer, none) = (l.covers p).0 one in inl (in_layer, λ masked. none ((m.covers p).1 masked)))
-      | inr one ↦ (let (masked, none) = (n.covers p).0 one in inr ((m.covers p).0 masked, none))
+      | inl (in_layer, none) ↦ inl (in_layer, λ masked. none ((m.covers p).1 masked))
+      | inr (masked, none) ↦ inr ((m.covers p).0 masked, none)
     ],
     λ h. (s.covers p).1 (elim h [
-      | inl (in_layer, none) ↦ inl ((l.covers p).1 (in_layer, λ masked. none ((m.covers p).0 masked)))
-      | inr (masked, none) ↦ inr ((n.covers p).1 ((m.covers p).1 masked, none))
+      | inl (in_layer, none) ↦ inl (in_layer, λ masked. none ((m.covers p).0 masked))
+      | inr (masked, none) ↦ inr ((m.covers p).1 masked, none)
     ]),
   );
 }

@@ -16,6 +16,10 @@ abbrev pub IsLeastOf : Region → Option Pt → Type 0
 IsLeastOf a None = ¬ HasSquare a
 IsLeastOf a (Some p) = IsLeast a p
 
+-- in exactly one of two sets
+abbrev pub is_in_one : List Rect → List Rect → Region
+is_in_one a b p = (Covers a p × ¬ Covers b p) ⊎ (Covers b p × ¬ Covers a p)
+
 -- a marked square of the layer that isn't on the one mask alone
 abbrev pub is_off : List Rect → List Rect → List Rect → List Rect → Region
 is_off layer mask other marked p = Covers layer p × Covers marked p × ¬ is_alone mask other p

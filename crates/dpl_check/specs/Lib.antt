@@ -3,3 +3,4 @@ pub mod Owned
 pub mod Cutting
 pub mod Places
 pub mod Anchors
+pub mod Claims

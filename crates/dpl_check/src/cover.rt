@@ -3,14 +3,24 @@ ghost use Rattle.std.specs.Prelude.{◌≡◌, IfOk, map};
 ghost use Rattle.std.specs.List.{All};
 ghost use Rattle.dpl_cert.specs.declared.cert.StitchLine.{StitchLine};
 ghost use Rattle.dpl_cert.specs.Grammar.{IsStitch};
+ghost use Rattle.dpl_spec_split.specs.Slabs.{AreSlabsOf};
 ghost use Rattle.dpl_spec_split.specs.Squares.{Covers};
 ghost use Rattle.dpl_spec_verdict.specs.Masks.{is_uncovered};
-ghost use Rattle.dpl_check.specs.Findings.{IsLeastOf, is_unlisted};
+ghost use Rattle.dpl_check.specs.Findings.{IsLeastOf, is_in_one, is_unlisted};
 
 use dpl_base::{Pt, Rect};
 use dpl_cert::StitchLine;
 use dpl_slabs::Slabs;
 use std::alloc::{AllocError, Global};
+
+/// The squares that are in just one of the two sets.
+fn difference(alloc: Global, layer: &Slabs, masks: &Slabs) -> Result<Slabs, AllocError>
+    ensures { IfOk result (AreSlabsOf (is_in_one layer.now masks.now)) }
+{
+    let missing = layer.minus(alloc, masks)?;
+    let added = masks.minus(alloc, layer)?;
+    missing.union(alloc, &added)
+}
 
 /// The least square that is in just one of the layer and both masks together.
 pub(crate) fn uncovered(
@@ -25,9 +35,7 @@ pub(crate) fn uncovered(
     if layer.equal(&masks) {
         return Ok(None);
     }
-    let missing = layer.minus(alloc, &masks)?;
-    let added = masks.minus(alloc, layer)?;
-    let all = missing.union(alloc, &added)?;
+    let all = difference(alloc, layer, &masks)?;
     Ok(all.least())
 }
 

@@ -1,8 +1,10 @@
 //! Lines of gains that aren't those of the layer's components.
-ghost use Rattle.std.specs.Prelude.{◌≡◌, ◌≤◌, ◌<◌, ◌↔◌, IsTrue, IfOk, IfSome, IfNone, Option, Some, length, slice_get};
+ghost use Rattle.std.specs.Prelude.{◌≡◌, ◌≤◌, ◌<◌, ◌↔◌, IsTrue, IfOk, IfSome, IfNone, List, Option, Some, length, slice_get};
+ghost use Rattle.dpl_spec_split.specs.declared.Rect.{Rect};
 ghost use Rattle.dpl_spec_split.specs.Marks.{AreMarks, Marks};
+ghost use Rattle.dpl_piece.specs.View.{IsMarkedSet, cut_view};
 ghost use Rattle.dpl_spec_verdict.specs.Gains.{letters, HasBadGain, IsFirstBadGain, VerdictOfGains};
-ghost use Rattle.dpl_check.specs.Cutting.{CountsOtherPieces};
+ghost use Rattle.dpl_check.specs.Cutting.{CountsOtherPieces, VerdictOfGainsByCut};
 
 use dpl_base::{Listed, Spacing};
 use dpl_cert::{Gain, Head, PieceLine};
@@ -56,6 +58,31 @@ fn counts_other_pieces(head: &Head, cut: &LayerCut) -> bool
         || cut.pieces.zones().len() as u64 != head.zones
 }
 
+/// What is said of lines of gains by a cut of the layer and its marked squares: that they are valid, or which is the first that is wrong.
+fn verdict_by_cut(
+    alloc: Global,
+    cut: &LayerCut,
+    marked: &Slabs,
+    head: &Head,
+    pieces: &[PieceLine],
+    lines: &[Gain],
+    spacing: Spacing,
+) -> Result<Verdict, AllocError>
+    requires corner { spacing.corner ≤ spacing.rule }
+    requires pieces { length pieces.now ≡ head.now.pieces }
+    ensures { (features : List (List Rect)) (marks : Option Marks) → IsMarkedSet marked.now marks → IfOk result (VerdictOfGainsByCut marks spacing (cut_view features cut.now.pieces) head.now (letters pieces.now) lines.now) }
+{
+    if counts_other_pieces(head, cut) {
+        return Ok(Verdict::Gain { index: 0 });
+    }
+    let letters = letters_of(alloc, pieces)?;
+    let found = gains_of(alloc, &cut.pieces, &letters, marked, spacing)?;
+    match first_bad(&found, lines) {
+        Some(index) => Ok(Verdict::Gain { index }),
+        None => Ok(Verdict::Valid),
+    }
+}
+
 /// What is said of lines of gains, if there are any: that they are valid, or which is the first that is wrong.
 pub(crate) fn verdict_of_gains(
     alloc: Global,
@@ -78,13 +105,5 @@ pub(crate) fn verdict_of_gains(
     };
     let marked = mark_a.union(alloc, mark_b)?;
     let cut = cut_within(alloc, layer, spacing, overlap, &marked)?;
-    if counts_other_pieces(head, &cut) {
-        return Ok(Verdict::Gain { index: 0 });
-    }
-    let letters = letters_of(alloc, pieces)?;
-    let found = gains_of(alloc, &cut.pieces, &letters, &marked, spacing)?;
-    if let Some(index) = first_bad(&found, lines.items()) {
-        return Ok(Verdict::Gain { index });
-    }
-    Ok(Verdict::Valid)
+    verdict_by_cut(alloc, &cut, &marked, head, pieces, lines.items(), spacing)
 }

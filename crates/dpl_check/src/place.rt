@@ -241,8 +241,8 @@ pub(crate) fn bad_place(
     ensures { IfOk result (λ found. (features : List (List Rect)) → IsFirstBadOf (IsBadPlace (asked marks mark_a.now mark_b.now) spacing (cut_view features cut.now.pieces) cycle.now near.now) cycle.now found) }
 {
     let parts = cut.pieces.parts().items();
+    let stood = Stood::none(alloc, parts.len())?;
     let tree = Tree::of_parts(alloc, parts)?;
     let trees = mark_trees(alloc, mark_a, mark_b, marks)?;
-    let stood = Stood::none(alloc, parts.len())?;
     Ok(first_wrong(cut, &tree, &trees, cycle, near, stood, spacing))
 }

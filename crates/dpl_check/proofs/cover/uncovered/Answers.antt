@@ -8,18 +8,11 @@ returns-then-equal c = none-uncovered c.args.layer.now c.args.a.now c.args.b.now
 
 pub returns : goal.returns
 returns c = least-of (is_uncovered c.args.layer.now c.args.a.now c.args.b.now) c.in_ok-all.all c.least.result
-    (uncovered-are c.args.layer.now c.args.a.now c.args.b.now c.in_ok-masks.masks c.in_ok-missing.missing c.in_ok-added.added
-    c.in_ok-all.all c.in_ok-masks.ensures c.in_ok-missing.ensures c.in_ok-added.ensures c.in_ok-all.ensures)
+    (uncovered-are c.args.layer.now c.args.a.now c.args.b.now c.in_ok-masks.masks c.in_ok-all.all c.in_ok-masks.ensures c.in_ok-all.ensures)
     c.least.ensures.none c.least.ensures.some
 
 pub returns-in_err-masks : goal.returns-in_err-masks
 returns-in_err-masks c = IfOk-from_err _ _ c.from_residual.ensures.0
-
-pub returns-in_err-missing : goal.returns-in_err-missing
-returns-in_err-missing c = IfOk-from_err _ _ c.from_residual-in_err-missing.ensures.0
-
-pub returns-in_err-added : goal.returns-in_err-added
-returns-in_err-added c = IfOk-from_err _ _ c.from_residual-in_err-added.ensures.0
 
 pub returns-in_err-all : goal.returns-in_err-all
 returns-in_err-all c = IfOk-from_err _ _ c.from_residual-in_err-all.ensures.0

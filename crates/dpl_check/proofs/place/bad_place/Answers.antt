@@ -30,11 +30,11 @@ returns c = λ features.
       same-bad marks trees (same-back trees marks same) c.args.spacing features _ pieces c.args.cycle.now c.args.near.now k _,
     )) c.first_wrong.ensures
 
+pub returns-in_err-stood : goal.returns-in_err-stood
+returns-in_err-stood c = IfOk-from_err _ _ c.from_residual.ensures.0
+
 pub returns-in_err-tree : goal.returns-in_err-tree
-returns-in_err-tree c = IfOk-from_err _ _ c.from_residual.ensures.0
+returns-in_err-tree c = IfOk-from_err _ _ c.from_residual-in_err-tree.ensures.0
 
 pub returns-in_err-trees : goal.returns-in_err-trees
 returns-in_err-trees c = IfOk-from_err _ _ c.from_residual-in_err-trees.ensures.0
-
-pub returns-in_err-stood : goal.returns-in_err-stood
-returns-in_err-stood c = IfOk-from_err _ _ c.from_residual-in_err-stood.ensures.0
