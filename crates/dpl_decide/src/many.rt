@@ -1,7 +1,9 @@
 //! Many layers of one file on the way to their decisions.
-ghost use Rattle.std.specs.Prelude.{◌≤◌, IfOk, List, length, option_map};
+ghost use Rattle.std.specs.Prelude.{◌≤◌, ◌++◌, ◌∷◌, [], IfOk, List, None, OnOk, length, option_map};
 ghost use Rattle.std.specs.List.{AllZip};
+ghost use Rattle.dpl_spec_split.specs.Squares.{Covers};
 ghost use Rattle.dpl_cert.specs.Grammar.{IsRule};
+ghost use Rattle.dpl_cut.specs.Cutting.{HasPointKeys, IsBareCutOf};
 ghost use Rattle.dpl_layer.specs.Reading.{limit};
 ghost use Rattle.dpl_layer.specs.declared.many.ReadLayer.{ReadLayer as ReadLayerOf};
 ghost use Rattle.dpl_answer.specs.Flat.{AreWorkers, IsTile};
@@ -35,7 +37,7 @@ pub struct LayersOrder<'a> {
     pub spacing: Spacing,
     /// How long a stitch is, in database units.
     pub overlap: u32,
-    /// How the conflicts are found.
+    /// How the work is shared.
     pub sharing: Sharing,
 }
 
@@ -46,7 +48,7 @@ enum Waiting {
     Cut { copied: Vec<u8> },
 }
 
-/// Decides each layer of a file by its bytes, as `decide` decides one. The file is read once, and one pool has the tiles of all layers, so the cuts of all layers live at once, while the slabs of a layer go when it is cut, and a cut when it is answered.
+/// Decides each layer of a file by its bytes, as `decide` decides one. The file is read once, and one pool has the tiles of all layers that have some, so the cuts of all layers live at once, while the slabs of a layer go when it is cut, and a cut when it is answered.
 ///
 /// The error: out of memory.
 pub fn decide_all<R: Threads + Wait + Sync, G: Gate + Sync>(
@@ -67,24 +69,40 @@ pub fn decide_all<R: Threads + Wait + Sync, G: Gate + Sync>(
 {
     let choices = choices_of(alloc, order)?;
     let layers = layers_of(alloc, &choices, bytes)?;
-    let (waiting, cuts) = all_cut(
+    all_decided(
         rt,
         alloc,
         layers,
         order.spacing,
         order.overlap,
-        order.sharing.workers,
-    )?;
-    let conflicts = conflicts_of_all(rt, alloc, &cuts, order.spacing, order.sharing, gate)?;
+        order.sharing,
+        gate,
+    )
+}
+
+/// Decides each layer by what was read of it.
+fn all_decided<R: Threads + Wait + Sync, G: Gate + Sync>(
+    rt: &R,
+    alloc: Global,
+    layers: Vec<ReadLayer>,
+    spacing: Spacing,
+    overlap: u32,
+    sharing: Sharing,
+    gate: &G,
+) -> Result<Vec<Decision>, AllocError>
+    requires rule { IsRule spacing.rule }
+    requires corner { spacing.corner ≤ spacing.rule }
+    requires some { 1 ≤ spacing.corner }
+    requires overlap { IsRule overlap }
+    requires tile { IsTile sharing.tile }
+    requires workers { AreWorkers sharing.workers }
+    ensures { IfOk result (λ ds. AreDecidedFrom spacing overlap layers.items ds.items) }
+{
+    let workers = sharing.workers;
+    let (waiting, cuts) = all_cut(rt, alloc, layers, spacing, overlap, workers)?;
+    let conflicts = conflicts_of_all(rt, alloc, &cuts, spacing, sharing, gate)?;
     all_answered(
-        rt,
-        alloc,
-        waiting,
-        cuts,
-        conflicts,
-        order.spacing,
-        order.overlap,
-        order.sharing.workers,
+        rt, alloc, waiting, cuts, conflicts, spacing, overlap, workers,
     )
 }
 
@@ -106,6 +124,49 @@ fn choices_of<'a>(
     Ok(choices)
 }
 
+/// Cuts a layer without markers.
+fn cut_unmarked<R: Threads + Sync>(
+    rt: &R,
+    alloc: Global,
+    slabs: Slabs,
+    spacing: Spacing,
+    overlap: u32,
+    workers: u32,
+) -> Result<BareLayerCut, AllocError>
+    requires corner { spacing.corner ≤ spacing.rule }
+    requires overlap { 1 ≤ overlap }
+    ensures cut { IfOk result (IsBareCutOf None spacing overlap (Covers slabs)) }
+    ensures keys { IfOk result HasPointKeys }
+{
+    let unmarked = Slabs::empty(alloc);
+    cut_by(rt, alloc, slabs, spacing, overlap, &unmarked, workers)
+}
+
+/// Adds a layer to those that wait, and where it has no fault its cut to the cuts.
+fn add_waiting<R: Threads + Sync>(
+    rt: &R,
+    alloc: Global,
+    waiting: &mut Vec<Waiting>,
+    cuts: &mut Vec<BareLayerCut>,
+    layer: ReadLayer,
+    spacing: Spacing,
+    overlap: u32,
+    workers: u32,
+) -> Result<(), AllocError>
+    requires corner { spacing.corner ≤ spacing.rule }
+    requires overlap { 1 ≤ overlap }
+    ensures { OnOk result ((layers : List ReadLayerOf) → AreWaiting spacing overlap layers waiting.old.items cuts.old.items → AreWaiting spacing overlap (layers ++ layer ∷ []) waiting.new.items cuts.new.items) }
+{
+    match layer {
+        ReadLayer::Refused { name, at } => waiting.push(Waiting::Refused { name, at })?,
+        ReadLayer::Read(Layer { copied, slabs }) => {
+            cuts.push(cut_unmarked(rt, alloc, slabs, spacing, overlap, workers)?)?;
+            waiting.push(Waiting::Cut { copied })?;
+        }
+    }
+    Ok(())
+}
+
 /// Cuts each layer that has no fault.
 fn all_cut<R: Threads + Sync>(
     rt: &R,
@@ -121,15 +182,17 @@ fn all_cut<R: Threads + Sync>(
 {
     let mut waiting = Vec::new(alloc);
     let mut cuts = Vec::new(alloc);
-    let unmarked = Slabs::empty(alloc);
     for layer in layers {
-        match layer {
-            ReadLayer::Refused { name, at } => waiting.push(Waiting::Refused { name, at })?,
-            ReadLayer::Read(Layer { copied, slabs }) => {
-                cuts.push(cut_by(rt, alloc, slabs, spacing, overlap, &unmarked, workers)?)?;
-                waiting.push(Waiting::Cut { copied })?;
-            }
-        }
+        add_waiting(
+            rt,
+            alloc,
+            &mut waiting,
+            &mut cuts,
+            layer,
+            spacing,
+            overlap,
+            workers,
+        )?;
     }
     Ok((waiting, cuts))
 }

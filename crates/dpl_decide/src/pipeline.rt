@@ -42,7 +42,7 @@ pub struct Recipe {
     pub overlap: u32,
     /// Whether single components are flipped as long as that leaves fewer stitches.
     pub fewer: bool,
-    /// How the conflicts are found.
+    /// How the work is shared.
     pub sharing: Sharing,
 }
 

@@ -21,6 +21,7 @@ use Rattle.dpl_slabs.specs.Parts.{union_of}
 use Rattle.dpl_slabs.specs.Scattered.{AreUntouched}
 use Rattle.dpl_slabs.proofs.LoopLaws.{covers-appended, rects-appended}
 use Rattle.dpl_slabs.proofs.ScatteredLaws.{scattered-more}
+use Rattle.dpl_piece.specs.Cutting.{CutPieces}
 use Rattle.dpl_piece.specs.declared.matched.Cut.{Cut}
 use Rattle.dpl_piece.specs.declared.piece.Whole.{Whole}
 use Rattle.dpl_piece.specs.Wholes.{AreOwnSides, HasWhole, IsZoneIn, LieIn}
@@ -32,7 +33,8 @@ use Rattle.dpl_masks.specs.declared.ink.Ink.{Ink}
 use Rattle.dpl_masks.specs.declared.ink.Ink.TheVariants.{Uncut, Blank, One, Both}
 use Rattle.dpl_masks.specs.declared.rest.Patch.{Patch}
 use Rattle.dpl_masks.specs.Inks.{IsInk, IsMixed, IsOne, IsUncut, ink_at}
-use Rattle.dpl_masks.specs.Painting.{HoldFrom, Holds}
+use Rattle.dpl_masks.specs.declared.pair.Masks.{Masks}
+use Rattle.dpl_masks.specs.Painting.{AreMasksOf, AreMasksOfCut, HoldFrom, Holds}
 use Rattle.dpl_masks.specs.Sheets.{AreInked, AreKnown, AreRest, AreUnitedTo, IsAmong, IsDone, AreOwnPatches, IsSheet, IsSheetTo, PutsOne, PutsUncut, in_some}
 use Rattle.dpl_masks.proofs.MaskLaws.{covers_none}
 
@@ -657,3 +659,9 @@ module _ (cut : Cut) (letters : List Letter) (inks : List Ink) (letter : Bool) (
     sheet = united-all h.features cut.parts cut.owners.items cut.zones.items cut.sides.items cut.wholes.items
         (map is_second letters) inks h.facts letter patches rest rise n out all h.sheet;
   }
+
+-- the masks of a cut are those of its pieces
+pub cut-masks : (c : CutPieces) (cut : Cut) (letters : List Letter) (colours : List Bool) → cut.parts ≡ c.parts → cut.zones.items ≡ c.zones → cut.sides.items ≡ c.sides
+    → map is_second letters ≡ colours → (m : Masks) → AreMasksOfCut cut (map is_second letters) m → AreMasksOf c colours m
+cut-masks c cut letters colours parts zones sides same m are =
+    record { first = rw (parts, zones, sides, same) at are.first; second = rw (parts, zones, sides, same) at are.second }

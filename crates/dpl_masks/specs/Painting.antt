@@ -3,10 +3,11 @@ use Rattle.std.specs.Prelude.{◌≡◌, ◌<◌, ◌≤◌, ◌⊎◌, ◌↔�
 use Rattle.std.specs.List.{AllPairs, Any, Contains}
 use Rattle.dpl_spec_split.specs.declared.Pt.{Pt}
 use Rattle.dpl_spec_split.specs.Squares.{Has, Region}
-use Rattle.dpl_spec_split.specs.Loops.{IsRectWithin, farthest}
+use Rattle.dpl_spec_split.specs.Loops.{AreRectsWithin, IsRectWithin, farthest}
 use Rattle.dpl_spec_split.specs.Slabs.{AreSlabsOf}
 use Rattle.dpl_spec_split.specs.Colours.{colour_at, differ, on_mask}
 use Rattle.dpl_piece.specs.Cutting.{CutPieces}
+use Rattle.dpl_piece.specs.declared.matched.Cut.{Cut}
 use Rattle.dpl_masks.specs.declared.pair.Masks.{Masks}
 use Rattle.dpl_masks.specs.declared.rest.Patch.{Patch}
 
@@ -14,6 +15,12 @@ use Rattle.dpl_masks.specs.declared.rest.Patch.{Patch}
 pub record AreMasksOf (c : CutPieces) (colours : List Bool) (m : Masks) : Type 0 where
   pub first : AreSlabsOf (on_mask c.parts c.zones c.sides colours false) m.a
   pub second : AreSlabsOf (on_mask c.parts c.zones c.sides colours true) m.b
+
+-- the same of a cut, within the range of a layer
+pub record AreMasksOfCut (cut : Cut) (colours : List Bool) (m : Masks) : Type 0 where
+  pub first : AreSlabsOf (on_mask cut.parts cut.zones.items cut.sides.items colours false) m.a
+  pub second : AreSlabsOf (on_mask cut.parts cut.zones.items cut.sides.items colours true) m.b
+  pub within : AreRectsWithin farthest m.a × AreRectsWithin farthest m.b
 
 -- one of both sides has this letter
 abbrev pub IsEither : List Bool → ℕ × ℕ → Bool → Type 0

@@ -5,7 +5,7 @@ ghost use Rattle.dpl_spec_split.specs.Loops.{AreRectsWithin, farthest};
 ghost use Rattle.dpl_spec_split.specs.Slabs.{AreSlabsOf};
 ghost use Rattle.dpl_spec_split.specs.Colours.{AreStitches, differ, on_mask};
 ghost use Rattle.dpl_orient.specs.Masks.{is_second};
-ghost use Rattle.dpl_masks.specs.Painting.{AreMasksOf};
+ghost use Rattle.dpl_masks.specs.Painting.{AreMasksOf, AreMasksOfCut};
 ghost use Rattle.dpl_masks.specs.Sheets.{AreInked, IsSheetTo, Puts, PutsOne, PutsUncut};
 
 use crate::ink::{Ink, InkedPieces, inked_pieces, is_same};
@@ -29,9 +29,7 @@ pub fn masks(alloc: Global, pieces: Pieces, colours: &Colours) -> Result<Masks, 
 {
     let letters = colours.items();
     let inked = inked_pieces(alloc, pieces, letters)?;
-    let a = mask_of(alloc, &inked, letters, Mask::A)?;
-    let b = mask_of(alloc, &inked, letters, Mask::B)?;
-    Ok(Masks { a, b })
+    both(alloc, &inked, letters)
 }
 
 /// The masks of coloured pieces, as `masks` gives them. With two workers or more mask A is made in a thread of its own, if one can be made.
@@ -53,18 +51,41 @@ pub fn masks_by<R: Threads>(
     }
     let letters = colours.items();
     let inked = inked_pieces(alloc, pieces, letters)?;
+    both_by(rt, alloc, &inked, letters)
+}
+
+/// Both masks, one after the other.
+fn both(alloc: Global, inked: &InkedPieces, letters: &[Mask]) -> Result<Masks, AllocError>
+    requires { AreInked inked.now.cut letters.now inked.now.inks.items }
+    ensures { IfOk result (AreMasksOfCut inked.now.cut (map is_second letters.now)) }
+{
+    let a = mask_of(alloc, inked, letters, Mask::A)?;
+    let b = mask_of(alloc, inked, letters, Mask::B)?;
+    Ok(Masks { a, b })
+}
+
+/// Both masks, side by side.
+fn both_by<R: Threads>(
+    rt: &R,
+    alloc: Global,
+    inked: &InkedPieces,
+    letters: &[Mask],
+) -> Result<Masks, AllocError>
+    requires { AreInked inked.now.cut letters.now inked.now.inks.items }
+    ensures { IfOk result (AreMasksOfCut inked.now.cut (map is_second letters.now)) }
+{
     let (a, b) = join(
         rt,
         || -> Result<Slabs, AllocError>
-            requires { AreInked inked.cut letters.now inked.inks.items }
-            ensures mask { IfOk result (AreSlabsOf (on_mask inked.cut.parts inked.cut.zones.items inked.cut.sides.items (map is_second letters.entry.now) (is_second Mask.A))) }
+            requires { AreInked inked.now.cut letters.now inked.now.inks.items }
+            ensures mask { IfOk result (AreSlabsOf (on_mask inked.entry.now.cut.parts inked.entry.now.cut.zones.items inked.entry.now.cut.sides.items (map is_second letters.entry.now) (is_second Mask.A))) }
             ensures within { IfOk result (AreRectsWithin farthest) }
-        { mask_of(alloc, &inked, letters, Mask::A) },
+        { mask_of(alloc, inked, letters, Mask::A) },
         || -> Result<Slabs, AllocError>
-            requires { AreInked inked.cut letters.now inked.inks.items }
-            ensures mask { IfOk result (AreSlabsOf (on_mask inked.cut.parts inked.cut.zones.items inked.cut.sides.items (map is_second letters.entry.now) (is_second Mask.B))) }
+            requires { AreInked inked.now.cut letters.now inked.now.inks.items }
+            ensures mask { IfOk result (AreSlabsOf (on_mask inked.entry.now.cut.parts inked.entry.now.cut.zones.items inked.entry.now.cut.sides.items (map is_second letters.entry.now) (is_second Mask.B))) }
             ensures within { IfOk result (AreRectsWithin farthest) }
-        { mask_of(alloc, &inked, letters, Mask::B) },
+        { mask_of(alloc, inked, letters, Mask::B) },
     );
     Ok(Masks { a: a?, b: b? })
 }

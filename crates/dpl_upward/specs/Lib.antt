@@ -1,3 +1,4 @@
 pub mod Active
 pub mod Upward
 pub mod Fronts
+pub mod Sweeps

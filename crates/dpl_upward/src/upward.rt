@@ -7,6 +7,7 @@ ghost use Rattle.dpl_spec_split.specs.Slabs.{AreSlabsOf, IsSolid};
 ghost use Rattle.dpl_upward.specs.Active.{IsAcross, LeftsRise};
 ghost use Rattle.dpl_order.specs.Orders.{CornersRise};
 ghost use Rattle.dpl_upward.specs.Fronts.{Adds, ArePassedBy, AreUpTo, IsFront, IsPutAt, IsSought};
+ghost use Rattle.dpl_upward.specs.Sweeps.{IsSweptTo, IsUnswept};
 ghost use Rattle.dpl_upward.specs.Upward.{bar_in, columns_of, AddsBand, AddsWithout, ArePassed, IsWidened, Left};
 
 use crate::active::Active;
@@ -248,6 +249,59 @@ fn top_of(rects: &[Rect]) -> i32
     top
 }
 
+/// The sweep, as far as it has come.
+#[derive(Drop)]
+struct Sweep {
+    front: Front,
+    /// The rectangles that have squares in the band, and the holes that do.
+    bars: Active,
+    gaps: Active,
+}
+
+impl Sweep {
+    /// None of so many rectangles, as below all rows.
+    fn new(alloc: Global, count: usize) -> Result<Sweep, AllocError>
+        ensures { IfOk result IsUnswept }
+    {
+        let front = Front {
+            pieces: Vec::with_capacity(alloc, count)?,
+            below: Vec::new(alloc),
+            passed: 0,
+            here: Vec::new(alloc),
+        };
+        Ok(Sweep {
+            front,
+            bars: Active::new(alloc),
+            gaps: Active::new(alloc),
+        })
+    }
+
+    /// Sweeps the band that begins in row `low`. Gives the row, up to `top`, in which the next one begins.
+    fn sweep_band(
+        &mut self,
+        rects: &[Rect],
+        holes: &[Rect],
+        low: i32,
+        top: i32,
+    ) -> Result<i32, AllocError>
+        requires order { low <ℤ top }
+        requires rects { CornersRise rects.now }
+        requires holes { CornersRise holes.now }
+        requires swept { IsSweptTo low rects.now holes.now self.old }
+        ensures above { IfOk result (λ high. low <ℤ high) }
+        ensures below { IfOk result (λ high. high ≤ℤ top) }
+        ensures swept { IfOk result (λ high. IsSweptTo high rects.now holes.now self.new) }
+    {
+        self.bars.begin(rects, low)?;
+        self.gaps.begin(holes, low)?;
+        let end = self.bars.end(rects, low, top);
+        let high = self.gaps.end(holes, low, end);
+        self.front
+            .put_band(&self.bars.rects, &self.gaps.rects, low, high)?;
+        Ok(high)
+    }
+}
+
 /// The canonical slabs of the squares that rectangles have and no hole has, with room for more, or none where too many of both lie side by side. Both lists go by first row and may overlap.
 fn pieces_upward(
     alloc: Global,
@@ -258,34 +312,24 @@ fn pieces_upward(
     requires holes { CornersRise holes.now }
     ensures { IfOk result (λ found. IfSome found (λ v. AreSlabsOf (Left rects.now holes.now) v.items)) }
 {
-    let mut front = Front {
-        pieces: Vec::with_capacity(alloc, rects.len())?,
-        below: Vec::new(alloc),
-        passed: 0,
-        here: Vec::new(alloc),
-    };
+    let mut sweep = Sweep::new(alloc, rects.len())?;
     if rects.is_empty() {
-        return Ok(Some(front.pieces));
+        return Ok(Some(sweep.front.pieces));
     }
-    let (mut bars, mut gaps) = (Active::new(alloc), Active::new(alloc));
     let most = rects.len().saturating_add(holes.len());
     let mut steps: usize = 0;
     let mut low = rects[0].y0;
     let top = top_of(rects);
     while low < top {
-        bars.begin(rects, low)?;
-        gaps.begin(holes, low)?;
-        let high = gaps.end(holes, low, bars.end(rects, low, top));
-        front.put_band(&bars.rects, &gaps.rects, low, high)?;
+        low = sweep.sweep_band(rects, holes, low, top)?;
         steps = steps
-            .saturating_add(bars.rects.len())
-            .saturating_add(gaps.rects.len());
-        if steps / IN_BANDS > most.saturating_add(front.pieces.len()) {
+            .saturating_add(sweep.bars.rects.len())
+            .saturating_add(sweep.gaps.rects.len());
+        if steps / IN_BANDS > most.saturating_add(sweep.front.pieces.len()) {
             return Ok(None);
         }
-        low = high;
     }
-    Ok(Some(front.pieces))
+    Ok(Some(sweep.front.pieces))
 }
 
 /// The canonical slabs of the squares that rectangles have and no hole has, or none where too many of both lie side by side. Both lists go by first row and may overlap.

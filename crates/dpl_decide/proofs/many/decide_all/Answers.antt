@@ -7,19 +7,13 @@ pub returns : goal.returns
 returns g c =
     let order = c.args.order.now in
     let read = rw c.deref.ensures.value at c.in_ok-layers.ensures in
-    IfOk-weaker c.all_answered.result _ _
+    IfOk-weaker c.all_decided.result _ _
     (λ ds from. layers_decided (option_map (λ t. t.now) order.top) order.datatype order.spacing order.overlap c.args.bytes.items c.requires.size
     order.layers.now c.in_ok-choices.choices.items c.in_ok-layers.layers.items ds.items c.in_ok-choices.ensures read from)
-    (c.all_answered.ensures c.in_ok-layers.layers.items c.in_ok-waiting.ensures)
+    c.all_decided.ensures
 
 pub returns-in_err-choices : goal.returns-in_err-choices
 returns-in_err-choices g c = IfOk-from_err _ _ c.from_residual.ensures.0
 
 pub returns-in_err-layers : goal.returns-in_err-layers
 returns-in_err-layers g c = IfOk-from_err _ _ c.from_residual-in_err-layers.ensures.0
-
-pub returns-in_err-waiting : goal.returns-in_err-waiting
-returns-in_err-waiting g c = IfOk-from_err _ _ c.from_residual-in_err-waiting.ensures.0
-
-pub returns-in_err-conflicts : goal.returns-in_err-conflicts
-returns-in_err-conflicts g c = IfOk-from_err _ _ c.from_residual-in_err-conflicts.ensures.0

@@ -34,3 +34,6 @@ returns c =
 
 pub returns-in_err-put_uncut : goal.returns-in_err-put_uncut
 returns-in_err-put_uncut c = rw (err_from_is_err_and c.from_residual.result c.from_residual.ensures.1).1 tt
+
+pub loop-k-init : goal.loop-k-init
+loop-k-init c = c.requires.sheet

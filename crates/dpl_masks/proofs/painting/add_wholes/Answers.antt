@@ -18,3 +18,9 @@ loop-k-preserved c =
 
 pub returns-in_err-put_whole : goal.returns-in_err-put_whole
 returns-in_err-put_whole c = rw (err_from_is_err_and c.from_residual.result c.from_residual.ensures.1).1 tt
+
+pub loop-k-init : goal.loop-k-init
+loop-k-init c = c.requires.sheet
+
+pub bounds-wholes-k : goal.bounds-wholes-k
+bounds-wholes-k c = c.loop-k-test.true

@@ -47,3 +47,21 @@ returns-in_err-add_wholes-clause-mask c = IfOk-from_err _ _ c.from_residual-in_e
 
 pub returns-in_err-add_wholes-clause-within : goal.returns-in_err-add_wholes-clause-within
 returns-in_err-add_wholes-clause-within c = IfOk-from_err _ _ c.from_residual-in_err-add_wholes.ensures.0
+
+pub rest_of-requires : goal.rest_of-requires
+rest_of-requires c = rw c.as_slice-inks.ensures.value c.requires
+
+pub united-requires-clause-inked : goal.united-requires-clause-inked
+united-requires-clause-inked c = c.requires
+
+pub united-requires-clause-rest : goal.united-requires-clause-rest
+united-requires-clause-rest c = rw (c.deref.ensures.value, ← c.as_slice-inks.ensures.value) c.in_ok-rest.ensures.rest
+
+pub united-requires-clause-rise : goal.united-requires-clause-rise
+united-requires-clause-rise c = rw c.deref.ensures.value c.in_ok-rest.ensures.rise
+
+pub add_uncut-requires-clause-each : goal.add_uncut-requires-clause-each
+add_uncut-requires-clause-each c = c.requires.each
+
+pub add_wholes-requires : goal.add_wholes-requires
+add_wholes-requires c = record { sheet = c.in_ok-add_uncut.ensures }

@@ -33,3 +33,18 @@ returns-in_err-add_rest_pieces-clause-rest c = IfOk-from_err _ _ c.from_residual
 
 pub returns-in_err-add_rest_pieces-clause-rise : goal.returns-in_err-add_rest_pieces-clause-rise
 returns-in_err-add_rest_pieces-clause-rise c = IfOk-from_err _ _ c.from_residual-in_err-add_rest_pieces.ensures.0
+
+pub add_rest_zones-requires-clause-known : goal.add_rest_zones-requires-clause-known
+add_rest_zones-requires-clause-known c = rw (c.deref-2.ensures.value, c.requires.each) c.requires.facts.known
+
+pub add_rest_zones-requires-clause-zones : goal.add_rest_zones-requires-clause-zones
+add_rest_zones-requires-clause-zones c = rw c.deref.ensures.value c.requires.solid
+
+pub add_rest_pieces-requires-clause-each : goal.add_rest_pieces-requires-clause-each
+add_rest_pieces-requires-clause-each c = rw c.items.ensures.value c.requires.each
+
+pub add_rest_pieces-requires-clause-within : goal.add_rest_pieces-requires-clause-within
+add_rest_pieces-requires-clause-within c = c.in_ok-add_rest_zones.ensures.within
+
+pub returns-clause-rise : goal.returns-clause-rise
+returns-clause-rise c = c.sort_by_feature.ensures.rise

@@ -16,7 +16,7 @@ loop-r-preserved c =
     let here : c.loop-r.r-index < length c.args.active.now = search rules in
     let r : Rect = get_or c.args.active.now c.loop-r.r-index zero in
     let fits : FitsSigned w32 r.y1 = search rules in
-    let m : FitsSigned w32 c.min-high.result = search rules in
+    let m : FitsSigned w32 c.min-high.result = record { sfits = c.min-high.type_inv } in
     let row = to_z-of_z w32 c.args.low c.ranges.low in
     let second = rw (to_z-of_z w32 r.y1 fits) at c.min-high.ensures.other_bound in
     let value = rw (to_z-of_z w32 r.y1 fits) at c.min-high.ensures.value in

@@ -14,7 +14,7 @@ loop-r-preserved c =
     let here : c.loop-r.r-index < length c.args.rects.now = search rules in
     let r : Rect = get_or c.args.rects.now c.loop-r.r-index zero in
     let fits : FitsSigned w32 r.y1 = search rules in
-    let top : FitsSigned w32 c.max-top.result = search rules in
+    let top : FitsSigned w32 c.max-top.result = record { sfits = c.max-top.type_inv } in
     let second = rw (to_z-of_z w32 r.y1 fits) at c.max-top.ensures.other_bound in
     rw (to_z-of_z w32 c.max-top.result top)
     (top-more c.args.rects.now c.loop-r.r-index r here (get_or_default c.args.rects.now c.loop-r.r-index zero r here) _ c.max-top.result c.max-top.ensures.self_bound second c.loop-r.invariant)

@@ -12,7 +12,7 @@ returns c =
     let y1 : FitsSigned w32 bar.y1 = search rules in
     let end : FitsSigned w32 bar.x1 = search rules in
     let other : FitsSigned w32 r.x1 = search rules in
-    let m : FitsSigned w32 c.max.result = search rules in
+    let m : FitsSigned w32 c.max.result = record { sfits = c.max.type_inv } in
     let value = rw (to_z-of_z w32 bar.x1 end, to_z-of_z w32 r.x1 other) at c.max.ensures.value in
     record {
       left = to_z-of_z w32 bar.x0 x0;

@@ -1,11 +1,11 @@
-use Rattle.std.proofs.Common.{rules, w32, FitsSigned}
+use Rattle.std.proofs.Common.{w32, FitsSigned}
 use Rattle.std.proofs.lemmas.Int.{to_z-of_z}
 use Rattle.dpl_upward.proofs.ActiveLaws.{fills, active-tall, rise-drop}
 use Rattle.dpl_upward.proofs.active.Active.end.Goals as goal
 
 pub returns-clause-fill : goal.returns-clause-fill
 returns-clause-fill c =
-    let fits : FitsSigned w32 c.end_of_band.result = search rules in
+    let fits : FitsSigned w32 c.end_of_band.result = record { sfits = c.end_of_band.type_inv } in
     rw (to_z-of_z w32 c.end_of_band.result fits)
     (fills c.args.low c.args.all.now c.args.self.now.begun _ c.requires.begun c.end_of_band.result
     (rw c.deref.ensures.value at c.end_of_band.ensures.ends) (rw c.split_at.ensures.back at c.end_of_band.ensures.begins))
@@ -28,10 +28,10 @@ end_of_band-requires-clause-others c = rw (to_z-of_z w32 c.args.low c.ranges.low
 
 pub returns-clause-above : goal.returns-clause-above
 returns-clause-above c =
-    let fits : FitsSigned w32 c.end_of_band.result = search rules in
+    let fits : FitsSigned w32 c.end_of_band.result = record { sfits = c.end_of_band.type_inv } in
     rw (to_z-of_z w32 c.end_of_band.result fits) (rw (to_z-of_z w32 c.args.low c.ranges.low) at c.end_of_band.ensures.above)
 
 pub returns-clause-below : goal.returns-clause-below
 returns-clause-below c =
-    let fits : FitsSigned w32 c.end_of_band.result = search rules in
+    let fits : FitsSigned w32 c.end_of_band.result = record { sfits = c.end_of_band.type_inv } in
     rw (to_z-of_z w32 c.end_of_band.result fits) (rw (to_z-of_z w32 c.args.top c.ranges.top) at c.end_of_band.ensures.below)

@@ -24,7 +24,7 @@ loop-i-init c =
     let bar = c.args.bar.now in
     let left : FitsSigned w32 bar.x0 = search rules in
     let reach : FitsSigned w32 c.args.passed.reach = search rules in
-    let m : FitsSigned w32 c.max-x.result = search rules in
+    let m : FitsSigned w32 c.max-x.result = record { sfits = c.max-x.type_inv } in
     let value = rw (to_z-of_z w32 bar.x0 left, to_z-of_z w32 c.args.passed.reach reach) at c.max-x.ensures.value in
     let over = rw (to_z-of_z w32 bar.x0 left) at c.max-x.ensures.self_bound in
     let past = rw (to_z-of_z w32 c.args.passed.reach reach) at c.max-x.ensures.other_bound in
@@ -45,7 +45,7 @@ loop-i-preserved c =
     let right : FitsSigned w32 bar.x1 = search rules in
     let x0 : FitsSigned w32 gap.x0 = search rules in
     let x1 : FitsSigned w32 gap.x1 = search rules in
-    let m : FitsSigned w32 c.max-x-in-loop-i.result = search rules in
+    let m : FitsSigned w32 c.max-x-in-loop-i.result = record { sfits = c.max-x-in-loop-i.type_inv } in
     let left = rw (to_z-of_z w32 bar.x1 right) at (c.count_left-end.ensures.left c.loop-i.i zero c.loop-i.auto.i c.loop-i-test.true) in
     let put = rw (to_z-of_z w32 gap.x0 x0) at c.in_ok-put_columns.ensures.adds in
     let front = rw (to_z-of_z w32 gap.x0 x0) at c.in_ok-put_columns.ensures.front in
