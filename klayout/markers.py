@@ -3,19 +3,20 @@
 
 usage: markers.py [--line TEXT] [--masks OUT] [--top NAME] IN CERT DATABASE
 
-IN is the layout and CERT the certificate that `dpl split` wrote; DATABASE, a file whose name ends
+IN is the layout and CERT the certificate that `dpl split` wrote; DATABASE, a file whose name should end
 with .lyrdb, is made: in KLayout open it by Tools, Marker Browser, beside the layout. It holds
 
-  stitches   each stitch as a box, with the numbers of the two pieces beside it
-  cycle      the odd cycle of a conflict: its pieces and near pairs as edges, in order
-  broken     a property that `dpl check` found broken, at its square
-  fault      why a file is refused: the element at the fault's offset, or its reference
+  stitches   each stitch as a box, with the numbers and masks of the two pieces beside it
+  cycle      the odd cycle of a conflict: the whole, then each piece and each near pair, in order
+  broken     a property that `dpl check` found broken, at its squares or its place in CERT
+  fault      why a file is refused: the element at the fault's offset, or what it places
 
 --line   what `dpl split` or `dpl check` said; needed for a broken property and for a fault of check
 --masks  the file of masks that was checked; needed to draw a fault that lies in it
 --top    the structure in which the layer begins, where that was chosen with --top
 
-Coordinates are micrometres by the UNITS of IN. Nothing but Python 3 is needed.
+Coordinates are micrometres by the UNITS of IN. Nothing but Python 3 is needed. It ends with 0 where
+DATABASE is made, with 2 where the words aren't as above, and else with 1; it says why.
 """
 import argparse
 import bisect
@@ -37,6 +38,10 @@ STRANS, MAG, ANGLE, PATHTYPE, BGNEXTN, ENDEXTN = 0x1A, 0x1B, 0x1C, 0x21, 0x30, 0
 
 BODIES = {BOUNDARY: "boundary", PATH: "path", SREF: "reference", AREF: "array of references",
           TEXT: "text", NODE: "node", BOX: "box"}
+SHAPES, REFERENCES = (BOUNDARY, PATH, BOX), (SREF, AREF)
+
+# So many bytes of a file are looked at: dpl refuses one that has more, whatever they are.
+MOST_BYTES = 268435456
 
 # Any number of boundaries of five points without options, which need no look at each record.
 PLAIN = re.compile(rb"(?:\x00\x04\x08\x00\x00\x06\x0d\x02..\x00\x06\x0e\x02.."
@@ -44,6 +49,9 @@ PLAIN = re.compile(rb"(?:\x00\x04\x08\x00\x00\x06\x0d\x02..\x00\x06\x0e\x02.."
 
 # Of an array with more copies than these, the ones in its corners are drawn.
 MOST_COPIES = 1000
+
+# So many bytes of a line that is none of a certificate are shown.
+MOST_SHOWN = 200
 
 CATEGORIES = {
     "stitches": "Stitches: rectangles that are on both masks, between two pieces of a feature",
@@ -67,14 +75,15 @@ ADVICE = {
                   "let the tool write polygons of at most 8,190 points",
     "BadName": "a structure or a reference has no name: name it where the file was written",
     "DuplicateStructure": "two structures have one name: rename one where the file was written",
-    "NoTop": "no structure has the name that --top gives, or each one is referred to: name another with --top",
+    "NoTop": "no structure has the name that --top gives, or each one is referred to, or there is none: "
+             "name another with --top",
     "ManyTops": "several structures are referred to by no other one: choose one with --top",
     "MissingStructure": "the file lacks the structure that this names: merge in the library that has it",
     "Recursion": "a structure contains itself: take out one of the references",
     "AbsoluteTransform": "it is marked as of absolute magnification or angle: " + ELSEWHERE,
     "Magnified": "it is magnified: " + ELSEWHERE,
     "AngleNotRight": "it is turned by another angle than a right one: " + ELSEWHERE,
-    "BadArray": "it has no rows or columns, or a spacing that isn't whole: " + ELSEWHERE,
+    "BadArray": "it has no rows or columns, or more than 32,767, or a spacing that isn't whole: " + ELSEWHERE,
     "SlantedBoundary": "an edge isn't parallel to an axis: " + RIGHT_ANGLES,
     "RoundPath": "a path with round ends: " + RIGHT_ANGLES,
     "BadPathType": "a path of a type that isn't 0, 1, 2 or 4: " + RIGHT_ANGLES,
@@ -84,6 +93,20 @@ ADVICE = {
     "NegativeExtension": "a path with a negative extension: " + RIGHT_ANGLES,
     "TooManyPoints": "the layer places more than 16,777,216 points: split it cell by cell",
     "OutOfRange": "a point lies farther than 1,000,000,000 units from 0, where this is placed",
+}
+
+# What is otherwise of the other files that `dpl check` reads.
+ADVICE_OF = {
+    "in": {},
+    "cert": {
+        "TooLarge": "the certificate has more than 268,435,456 bytes",
+        "Line": "the text is no certificate from this line on: make it again",
+    },
+    "out": {
+        "TooLarge": "the file of masks has more than 268,435,456 bytes",
+        "NoTop": "the masks lie in the one structure that no other one refers to, and there is none",
+        "ManyTops": "the masks lie in the one structure that no other one refers to, and there are several",
+    },
 }
 
 # Faults whose number is no offset in the file.
@@ -104,6 +127,10 @@ PROPERTIES = {
     "Gain": "a line of gains isn't that of the layer's component, or its flip would save a stitch",
     "Cycle": "a place of the listed cycle isn't true of the layer",
 }
+
+# How many numbers each of them is told with.
+COUNTS = {"Rules": (2, 3), "WasFault": (1,), "Counts": (3,), "Cover": (2,), "Overlap": (2,), "SpacingA": (4,),
+          "SpacingB": (4,), "Marked": (2,), "Stitch": (1,), "Piece": (1,), "Gain": (1,), "Cycle": (1,)}
 
 
 class Problem(Exception):
@@ -134,6 +161,11 @@ def numbers(body, letter, size):
     return struct.unpack(">%d%s" % (len(body) // size, letter), body[:len(body) // size * size])
 
 
+def pairs(flat):
+    """The points whose coordinates stand in a row."""
+    return list(zip(flat[::2], flat[1::2]))
+
+
 class Element:
     """An element of a structure, as far as it could be read."""
 
@@ -147,8 +179,7 @@ class Element:
     def take(self, kind, body):
         """Takes a record of the element."""
         if kind == XY:
-            both = numbers(body, "i", 4)
-            self.points += list(zip(both[::2], both[1::2]))
+            self.points += pairs(numbers(body, "i", 4))
         elif kind == SNAME:
             self.name = name_of(body)
         elif kind in (MAG, ANGLE) and len(body) == 8:
@@ -171,6 +202,11 @@ class Element:
         """How far a path reaches past its first and its last point."""
         half = self.width / 2
         return {1: [half, half], 2: [half, half], 4: self.extensions}.get(self.path_type, [0, 0])
+
+    def sides(self):
+        """From point to point; a boundary and a box go back to the first one."""
+        behind = self.points[1:] + (self.points[:1] if self.kind in (BOUNDARY, BOX) else [])
+        return list(zip(self.points, behind))
 
     def outline(self):
         """Points that lie as far out as what the element draws."""
@@ -224,7 +260,7 @@ class Library:
     def __init__(self, path):
         try:
             with open(path, "rb") as file:
-                self.data = file.read()
+                self.data = file.read(MOST_BYTES)
         except OSError as error:
             raise Problem("%s: %s" % (path, error.strerror)) from None
         self.path, self.unit = path, None
@@ -319,8 +355,8 @@ class Library:
     def drawing(self, name):
         """The corners of what a structure draws, and its references."""
         elements = list(self.elements(self.place[name])) if name in self.place else []
-        references = [e for e in elements if e.kind in (SREF, AREF)]
-        box = around([p for e in elements if e.kind not in (SREF, AREF) for p in e.outline()])
+        references = [e for e in elements if e.kind in REFERENCES]
+        box = around([p for e in elements if e.kind in SHAPES for p in e.outline()])
         return [box[:2], box[2:]] if box else [], references
 
 
@@ -374,6 +410,7 @@ class Certificate:
         fault = re.fullmatch(rb"fault ([A-Za-z]+) ([0-9]{1,20})\n", line)
         if fault and version == 1:
             self.kind, self.fault = "fault", (text_of(fault[1]), int(fault[2]))
+            self.end()
             return
         rules = "rule # overlap #" if version == 1 else "rule # overlap # corner #"
         numbers = self.match(rules, line) or self.fail()
@@ -404,6 +441,12 @@ class Certificate:
         numbers = self.match(pattern, self.line())
         return self.fail() if numbers is None else numbers
 
+    def end(self):
+        """Reads the last line, behind which nothing may stand."""
+        self.take("end")
+        if self.line():
+            self.fail()
+
     def piece_lines(self, wanted):
         """Reads the pieces of masks and keeps their letters; the square of one of them, or None."""
         square, form = None, re.compile(rb"piece [0-9]+ ([AB]) (-?[0-9]{1,20}) (-?[0-9]{1,20})\n")
@@ -420,7 +463,7 @@ class Certificate:
             yield self.take("stitch # # # # # #")
         for _ in range(self.gains):
             self.take("gain # # #")
-        self.take("end")
+        self.end()
 
     def letter(self, piece):
         return chr(self.letters[piece]) if 0 <= piece < len(self.letters) else "no mask"
@@ -429,7 +472,7 @@ class Certificate:
         """The places of a conflict, and the squares that join each to the next one."""
         places = [self.place() for _ in range(self.count)]
         nears = [self.near() for _ in range(self.count)]
-        self.take("end")
+        self.end()
         return places, nears
 
     def place(self):
@@ -446,8 +489,7 @@ class Certificate:
         line = self.line()
         if line == b"anchors\n":
             return []
-        numbers = self.match("near # # # #", line) or self.match("marked # #", line) or self.fail()
-        return list(zip(*[iter(numbers)] * 2))
+        return pairs(self.match("near # # # #", line) or self.match("marked # #", line) or self.fail())
 
 
 @functools.lru_cache(maxsize=None)
@@ -468,28 +510,27 @@ class Said:
     def __init__(self, line):
         words = line.split()
         self.line, self.name, self.numbers, self.file = " ".join(words), None, [], None
-        if not words or words[0] not in ("done", "valid", "conflict", "refused", "no"):
-            raise Problem("dpl says no such line: '%s'" % self.line)
-        if words[0] == "refused" and words[1:2] and words[1] in ("in", "cert", "out"):
-            self.file = words.pop(1)
-        elif words[0] == "refused":
-            self.file = "in"
-        if words[0] in ("refused", "no"):
-            self.take(words)
+        if words[:2] == ["refused", "edits"]:
+            raise Problem("what is refused is the text of edits, of which nothing is drawn: '%s'" % self.line)
+        if words[:1] == ["refused"]:
+            self.file = words.pop(1) if words[1:2] and words[1] in ADVICE_OF else "in"
+        if words[:1] in (["refused"], ["no"]):
+            self.take(words[1:])
+        elif words[:1] not in (["done"], ["valid"], ["conflict"]):
+            self.fail()
+
+    def fail(self):
+        raise Problem("dpl says no such line: '%s'" % self.line)
 
     def take(self, words):
         """Takes the name and the numbers; only the property WasFault has a name among its numbers."""
-        self.name = words[1] if len(words) > 1 else ""
-        digits = words[3:] if self.name == "WasFault" else words[2:]
+        self.name = words[0] if words else ""
+        digits = words[2:] if self.name == "WasFault" else words[1:]
         if not all(re.fullmatch("-?[0-9]{1,20}", word) for word in digits):
-            raise Problem("dpl says no such line: '%s'" % self.line)
+            self.fail()
         self.numbers = [int(word) for word in digits]
-        counts = {"Rules": 2, "WasFault": 1, "Counts": 3, "Cover": 2, "Overlap": 2, "SpacingA": 4,
-                  "SpacingB": 4, "Marked": 2, "Stitch": 1, "Piece": 1, "Gain": 1, "Cycle": 1}
-        wanted = 1 if self.file else counts.get(self.name)
-        names_corner = self.name == "Rules" and len(self.numbers) == 3
-        if len(self.numbers) != wanted and not names_corner:
-            raise Problem("dpl says no such line: '%s'" % self.line)
+        if len(digits) not in ((1,) if self.file else COUNTS.get(self.name, ())):
+            self.fail()
 
     def broken(self):
         """Whether the line tells of a broken property."""
@@ -577,24 +618,22 @@ def conflict_marks(certificate, said, pen, cell):
     """The cycle as a whole, then its pieces and near pairs in order, and the place that is broken."""
     places, nears = certificate.cycle()
     count = len(places)
+    # from each piece to the next one, and across each piece
     lines = [between(*near) if len(near) == 2 else None for near in nears]
     ways = [lines[i - 1] and lines[i] and (lines[i - 1][1], lines[i][0]) for i in range(count)]
-    names = [name.replace("piece ", "") for name, _ in places]
-    text = "odd cycle of %d %s: %s" % (count, "pieces" if all(lines) else "pieces and anchors", " ".join(names))
-    edges = [edge for pair in zip(ways, lines) for edge in pair if edge and edge[0] != edge[1]]
+    names = " ".join(name.replace("piece ", "") for name, _ in places)
+    text = "odd cycle of %d %s: %s" % (count, "pieces" if all(lines) else "pieces and anchors", names)
+    edges = [edge for pair in zip(ways, lines) for edge in pair if has_length(edge)]
     yield "cycle", cell, [pen.text(text)] + [pen.edge(*edge) for edge in edges]
     broken = said.broken_at("Cycle", count)
     for i, ((name, square), near) in enumerate(zip(places, nears)):
         values = [pen.text("%d of %d: %s" % (i + 1, count, name))] + ([pen.square(*square)] if square else [])
-        values += [pen.edge(*ways[i])] if ways[i] and ways[i][0] != ways[i][1] else []
+        values += [pen.edge(*ways[i])] if has_length(ways[i]) else []
         yield "cycle", cell, values
         text = "%d of %d: %s and %s are " % (i + 1, count, name, places[(i + 1) % count][0])
         pair = [pen.square(*one) for one in near]
         if lines[i]:
-            gaps = [i - j for i, j in zip(*lines[i])]
-            has_corner_rule = all(gaps) and certificate.corner != certificate.rule
-            rule = ("corner rule", certificate.corner) if has_corner_rule else ("rule", certificate.rule)
-            text += "%s µm apart, the %s is %s µm" % (pen.length(math.hypot(*gaps)), rule[0], pen.length(rule[1]))
+            text += distance(lines[i], certificate, pen)
             pair.insert(0, pen.edge(*lines[i]))
         else:
             text += "joined by a marked square" if near else "joined"
@@ -603,12 +642,27 @@ def conflict_marks(certificate, said, pen, cell):
             yield "broken", cell, values + pair
 
 
+def has_length(line):
+    """Whether there is a line that isn't a single point."""
+    return line is not None and line[0] != line[1]
+
+
+def distance(line, certificate, pen):
+    """How long the shortest line between two near squares is, and how long the rule wants it."""
+    (x0, y0), (x1, y1) = line
+    is_corner = x0 != x1 and y0 != y1 and certificate.corner != certificate.rule
+    rule = ("corner rule", certificate.corner) if is_corner else ("rule", certificate.rule)
+    length = math.hypot(x1 - x0, y1 - y0)
+    return "%s µm apart, the %s is %s µm" % (pen.length(length), rule[0], pen.length(rule[1]))
+
+
 def broken_marks(said, pen, cell):
     """A broken property that tells its squares, or has none."""
-    values, squares = [pen.text(said.line)], list(zip(*[iter(said.numbers)] * 2))
+    values, squares = [pen.text(said.line)], []
     if said.name in ("Cover", "Overlap", "SpacingA", "SpacingB", "Marked"):
-        values += [pen.square(*square) for square in squares]
-    if said.name in ("SpacingA", "SpacingB"):
+        squares = pairs(said.numbers)
+    values += [pen.square(*square) for square in squares]
+    if len(squares) == 2:
         values.append(pen.edge(*between(*squares)))
     if said.name not in ("Stitch", "Piece", "Cycle"):
         yield "broken", cell, values
@@ -617,16 +671,17 @@ def broken_marks(said, pen, cell):
 def element_values(element, name, library, pen):
     """The shapes of an element with a fault of this name."""
     points = element.points
-    if element.kind in (SREF, AREF):
+    if element.kind in REFERENCES:
         box = library.bounds(element.name)
         shapes = [pen.polygon(copy) for copy in copies(element, box)] if box else []
         return shapes + [pen.spot(*point) for point in (points[:1] if box else points)]
-    if element.kind in (BOUNDARY, BOX) and points[1:] and points[0] == points[-1]:
-        points = points[:-1]
-    slanted = [pen.edge(a, b) for a, b in zip(element.points, element.points[1:])
+    slanted = [pen.edge(a, b) for a, b in element.sides()
                if a[0] != b[0] and a[1] != b[1] and name.startswith("Slanted")]
-    if element.kind in (BOUNDARY, BOX) and len(points) > 2:
-        return slanted + [pen.polygon(points)]
+    if element.kind in (BOUNDARY, BOX):
+        if points[1:] and points[0] == points[-1]:
+            points = points[:-1]
+        if len(points) > 2:
+            return slanted + [pen.polygon(points)]
     if element.kind == PATH and len(points) > 1:
         return slanted + [pen.path(element)]
     return [pen.spot(*point) for point in points]
@@ -641,19 +696,22 @@ def fault_mark(library, name, at, pen, cell):
         return "fault", cell, values
     structure, element = library.find(at)
     if element is None:
-        values.append(pen.text("in structure " + structure if structure else "outside of all structures"))
-        return "fault", structure or cell, values
+        where = "outside of all structures" if structure is None else "in structure " + (structure or "without a name")
+        return "fault", structure or cell, values + [pen.text(where)]
     what = BODIES[element.kind] + (" to " + element.name if element.name else "")
     layer = "" if element.layer is None else " on layer %d" % element.layer
     values.append(pen.text("%s%s, at offset %d" % (what, layer, element.at)))
-    return "fault", structure, values + element_values(element, name, library, pen)
+    return "fault", structure or cell, values + element_values(element, name, library, pen)
 
 
 def line_mark(certificate, number, pen, cell):
     """A certificate that is refused at a line."""
-    line = next(itertools.islice(certificate.file, number - 1, number), None) if number > 0 else None
-    text = "the text ends there" if line is None else text_of(line.rstrip(b"\n"))
-    return "fault", cell, [pen.text("line %d of %s is none of a certificate" % (number, certificate.path)), pen.text(text)]
+    line = next(itertools.islice(certificate.file, number - 1, number), None) if 0 < number <= sys.maxsize else None
+    values = [pen.text("line %d of %s is none of a certificate" % (number, certificate.path))]
+    values.append(pen.text("the text ends there" if line is None else text_of(line[:MOST_SHOWN].rstrip(b"\n"))))
+    if line is not None and not line.endswith(b"\n"):
+        values.append(pen.text("it has no line feed at its end"))
+    return "fault", cell, values
 
 
 # ---- the database --------------------------------------------------------------------------------
@@ -690,15 +748,17 @@ def write(file, about, categories, cells, marks):
     put(" </items>\n</report-database>\n")
 
 
-def top_of(library, name, refused):
-    """The structure in whose coordinates a certificate speaks."""
-    if name is not None and name not in library.names and not refused:
-        raise Problem("%s has no structure '%s'" % (library.path, name))
+def top_of(library, name, is_refused):
+    """The structure in whose coordinates a certificate speaks; of a refused file any one that may be meant."""
     tops = library.tops()
-    if name is not None or refused:
-        return name or (tops or library.names or ["TOP"])[0]
+    if is_refused:
+        return next(filter(None, [name if name in library.names else None] + tops + library.names), "TOP")
+    if name is not None and name not in library.names:
+        raise Problem("%s has no structure '%s'" % (library.path, name))
     if library.unit is None or not library.unit > 0:
         raise Problem("%s: no GDSII layout with a unit" % library.path)
+    if name is not None:
+        return name
     if len(tops) != 1:
         raise Problem("%s has %d structures that no other one refers to (%s): choose one with --top"
                       % (library.path, len(tops), ", ".join(tops)))
@@ -708,24 +768,37 @@ def top_of(library, name, refused):
 def plan(source, certificate, said, masks, top):
     """What is to be written: the categories, the cells and the marks."""
     library = Library(source)
-    fault = (said.name, said.numbers[0]) if said.file else None
-    if not said.file:
-        certificate.head()
-        fault = None if said.broken() else certificate.fault
-    cell = top_of(library, top, fault is not None)
-    pen = Pen(library.unit or 0.001)
-    if not fault:
-        return listed(certificate, said, pen, cell)
-    description = CATEGORIES["fault"].format(fault[0], ADVICE.get(fault[0], "the certificate is none"))
-    if said.file == "cert":
-        mark = line_mark(certificate, fault[1], pen, cell)
-    elif said.file == "out" and masks is None:
-        words = "it lies in the file of masks: give that with --masks to see it drawn"
-        mark = "fault", cell, [pen.text("%s %d" % fault), pen.text(words)]
+    if said.file:
+        file, fault = said.file, (said.name, said.numbers[0])
     else:
-        library = Library(masks) if said.file == "out" else library
-        mark = fault_mark(library, fault[0], fault[1], Pen(library.unit or 0.001), top_of(library, None, True))
-    return {"fault": description}, [mark[1]], [mark]
+        certificate.head()
+        file, fault = "in", None if said.broken() else certificate.fault
+    cell = top_of(library, top, fault is not None)
+    if not fault:
+        return listed(certificate, said, Pen(library.unit), cell)
+    mark = refused_mark(library, certificate, file, fault, masks, cell)
+    return {"fault": CATEGORIES["fault"].format(fault[0], advice(file, fault[0]))}, [mark[1]], [mark]
+
+
+def advice(file, name):
+    """What is wrong with a file that has a fault of this name, and what helps."""
+    return ADVICE_OF[file].get(name) or ADVICE.get(name, "a fault that isn't known here")
+
+
+def refused_mark(library, certificate, file, fault, masks, cell):
+    """The mark of a fault, which lies in the layout, the certificate or the file of masks."""
+    pen = Pen(library.unit or 0.001)
+    if file == "cert" and fault[0] == "Line":
+        return line_mark(certificate, fault[1], pen, cell)
+    if file == "cert":
+        return "fault", cell, [pen.text("%s %d" % fault), pen.text("it lies in the certificate, %s" % certificate.path)]
+    if file == "out" and masks is None:
+        words = "it lies in the file of masks: give that with --masks to see it drawn"
+        return "fault", cell, [pen.text("%s %d" % fault), pen.text(words)]
+    if file == "out":
+        library = Library(masks)
+        pen, cell = Pen(library.unit or 0.001), top_of(library, None, True)
+    return fault_mark(library, fault[0], fault[1], pen, cell)
 
 
 def listed(certificate, said, pen, cell):
@@ -742,9 +815,17 @@ def listed(certificate, said, pen, cell):
     return categories, [cell], itertools.chain(first, own(certificate, said, pen, cell))
 
 
+def is_one(path, other):
+    """Whether both are paths of one file."""
+    return os.path.exists(path) and os.path.exists(other) and os.path.samefile(path, other)
+
+
 def build(source, certificate, database, line=None, masks=None, top=None):
     """Makes the marker database of a layout and a certificate; what was said may add to it."""
-    said = Said(line if line is not None else "done")
+    said = Said("done" if line is None else line)
+    for path in (source, certificate, masks):
+        if path is not None and is_one(path, database):
+            raise Problem("%s would be overwritten: give the database another name" % path)
     about = {"description": "dpl: " + (line or certificate).strip(), "original-file": source,
              "generator": "dpl markers.py"}
     part = database + ".part"

@@ -1,10 +1,12 @@
 """What the entry "Split into two masks (dpl)" in KLayout's menu Tools does; dpl.lym calls it.
 
-The layer is written to a temporary file and split by the program dpl. The masks are shown beside the
-layout, in the colours of dpl.lyp, and the marker browser lists stitches, a cycle of conflicts, or
-the element for which the layer is refused (markers.py).
+The layer, and the layers of markers that options name, are written to a temporary file, and the program
+dpl splits the layer. The masks are shown beside the layout, in the colours of dpl.lyp, and the marker
+browser lists stitches, a cycle of conflicts, or the element for which the layer is refused (markers.py).
 """
+import collections
 import importlib.util
+import itertools
 import os
 import re
 import shlex
@@ -21,6 +23,16 @@ TITLE = "Split into two masks (dpl)"
 HERE = os.path.dirname(os.path.realpath(__file__))
 PREFIX = "dpl-"
 MOST = 1000000
+
+# Where installations put the program; the last one is that of a package that these files belong to.
+FOLDERS = ["~/bin", "/usr/local/bin", "/usr/bin"]
+if HERE.endswith("/share/dpl/klayout"):
+    FOLDERS.append(os.path.join(HERE, "../../../bin"))
+
+# The layers of a layout, their names, and the place in both of the one that is offered first.
+Layers = collections.namedtuple("Layers", "indices names current")
+# What the user asks for: the place of a layer, two lengths in database units, and words for dpl.
+Values = collections.namedtuple("Values", "place rule overlap more")
 
 NOT_FOUND = """The program dpl isn't on the PATH, nor in %s.
 
@@ -58,9 +70,8 @@ def setting(name, value=None):
 
 def find_program():
     """Where the program is, or None: as chosen before, on the PATH, or where installations put it."""
-    folders = ["~/bin", "/usr/local/bin", "/usr/bin", os.path.join(HERE, "../../../bin")]
     names = [setting("program"), shutil.which("dpl") or ""]
-    names += [os.path.join(os.path.expanduser(folder), "dpl") for folder in folders]
+    names += [os.path.join(os.path.expanduser(folder), "dpl") for folder in FOLDERS]
     return next((os.path.normpath(n) for n in names if os.path.isfile(n) and os.access(n, os.X_OK)), None)
 
 
@@ -82,12 +93,12 @@ def program():
 
 
 def call(words, layer):
-    """Runs the program, while KLayout stays alive; its status and what it said."""
-    progress = pya.AbsoluteProgress("dpl splits layer " + layer)
+    """Runs the program, while KLayout stays alive; its status, what it said, and what it told standard error."""
     try:
-        process = subprocess.Popen(words, stdin=subprocess.DEVNULL, stdout=subprocess.PIPE, stderr=subprocess.STDOUT)
+        process = subprocess.Popen(words, stdin=subprocess.DEVNULL, stdout=subprocess.PIPE, stderr=subprocess.PIPE)
     except OSError as error:
         raise Problem("%s: %s" % (words[0], error.strerror)) from None
+    progress = pya.AbsoluteProgress("dpl splits layer " + layer)
     try:
         steps = 0
         while process.poll() is None:
@@ -101,7 +112,8 @@ def call(words, layer):
             process.kill()
             process.wait()
         progress._destroy()
-    return process.returncode, process.communicate()[0].decode("utf-8", "replace").strip()
+    line, told = (text.decode("utf-8", "replace").strip() for text in process.communicate())
+    return process.returncode, line, told
 
 
 # ---- what the user is asked ----------------------------------------------------------------------
@@ -123,18 +135,18 @@ def units_of(text, unit, name):
 class Form(pya.QDialog):
     """Asks for layer, rule, overlap and further options."""
 
-    def __init__(self, view, unit, layers, current):
+    def __init__(self, unit, layers):
         super(Form, self).__init__(pya.MainWindow.instance())
         self.unit, self.values = unit, None
         self.windowTitle = TITLE
         form = pya.QFormLayout(self)
         self.layers = pya.QComboBox(self)
-        for name in layers:
+        for name in layers.names:
             self.layers.addItem(name)
-        self.layers.currentIndex = current
+        self.layers.currentIndex = layers.current
         self.rule = self.field(setting("rule") or "%g" % (30 * unit), "two features closer than this go to different masks")
         self.overlap = self.field(setting("overlap") or "%g" % (10 * unit), "how wide a stitch is")
-        self.more = self.field(setting("more"), "as on dpl's command line, for instance --workers 8")
+        self.more = self.field(setting("more"), "as on dpl's command line, lengths in database units: --corner 25, for instance")
         self.hint = pya.QLabel(self)
         self.hint.wordWrap = True
         for label, field in (("Layer", self.layers), ("Rule (µm)", self.rule), ("Overlap (µm)", self.overlap),
@@ -166,12 +178,12 @@ class Form(pya.QDialog):
         for name, text in (("layer", self.layers.currentText), ("rule", self.rule.text),
                            ("overlap", self.overlap.text), ("more", self.more.text)):
             setting(name, text)
-        self.values = self.layers.currentIndex, rule, overlap, more
+        self.values = Values(self.layers.currentIndex, rule, overlap, more)
         self.accept()
 
 
 def layers_of(view, cellview):
-    """The layers of a layout, their names, and which is current in the panel or else was split last."""
+    """The layers of a layout; first is offered the current one of the panel, or else the one that was split last."""
     layout = cellview.layout()
     indices = sorted(layout.layer_indexes(), key=lambda i: layout.get_info(i).to_s())
     if not indices:
@@ -183,20 +195,43 @@ def layers_of(view, cellview):
         entry = current.current()
         if entry.cellview() == cellview.index() and entry.layer_index() in indices:
             place = indices.index(entry.layer_index())
-    return indices, names, place
+    return Layers(indices, names, place)
 
 
 # ---- files and views -----------------------------------------------------------------------------
 
 
-def save_layer(cellview, index, path):
-    """Writes a layer of the shown cell as GDSII; its number and datatype there."""
-    info = cellview.layout().get_info(index)
-    number = (info.layer, info.datatype)
-    if not all(0 <= n <= 65535 for n in number):
-        number = (1, 0)
+def option(words, name, default):
+    """The value of an option among words."""
+    for word, after in zip(words, words[1:] + [""]):
+        if word == name:
+            return after
+        if word.startswith(name + "="):
+            return word[len(name) + 1:]
+    return default
+
+
+def marker_layers(words):
+    """The layers of markers that options name; what is no number is left for dpl to refuse."""
+    texts = [option(words, name, "") for name in ("--mark-a", "--mark-b")]
+    return sorted({int(text) for text in texts if re.fullmatch("[-+]?[0-9]{1,9}", text)})
+
+
+def save_layers(cellview, index, markers, path):
+    """Writes a layer of the shown cell and layers of markers as GDSII; the number and datatype of the layer there."""
+    layout = cellview.layout()
+    info = layout.get_info(index)
     if cellview.cell.bbox_per_layer(index).empty():
         raise Problem("Layer %s has no shapes in cell %s." % (info.to_s(), cellview.cell.name))
+    number = (info.layer, info.datatype)
+    if not all(0 <= n <= 65535 for n in number):
+        number = next((n, 0) for n in itertools.count(1) if n not in markers)
+    written = {number: index}
+    for marker in markers:
+        found = layout.find_layer(marker, 0)
+        if found is None:
+            raise Problem("The layout has no layer %d/0, which the options name for markers." % marker)
+        written.setdefault((marker, 0), found)
     options = pya.SaveLayoutOptions()
     options.format = "GDS2"
     options.write_context_info = False
@@ -205,8 +240,9 @@ def save_layer(cellview, index, path):
     options.gds2_multi_xy_records = False
     options.select_cell(cellview.cell_index)
     options.deselect_all_layers()
-    options.add_layer(index, pya.LayerInfo(*number))
-    cellview.layout().write(path, options)
+    for there, here in written.items():
+        options.add_layer(here, pya.LayerInfo(*there))
+    layout.write(path, options)
     return number
 
 
@@ -232,25 +268,19 @@ def close_earlier(view, masks, markers):
         shutil.rmtree(folder, ignore_errors=True)
 
 
-def option(words, name, default):
-    """The value of an option among words."""
-    for word, after in zip(words, words[1:] + [""]):
-        if word == name:
-            return after
-        if word.startswith(name + "="):
-            return word[len(name) + 1:]
-    return default
+def coloured(text, layer, numbers, place):
+    """The layer properties of dpl.lyp for masks of a layer, by their numbers and the place of their layout in the panel."""
+    text = re.sub("10([12])/0@2", lambda found: "%d/0@%d" % (numbers[int(found[1]) - 1], place), text)
+    return text.replace("<name>mask", "<name>%s mask" % escape(layer))
 
 
 def show_masks(view, path, layer, more, folder):
     """Shows the masks beside the layout, in their colours."""
     box, active = view.box(), view.active_cellview_index()
     index = view.load_layout(path, True)
+    numbers = [int(option(more, name, default)) for name, default in (("--a", "101"), ("--b", "102"))]
     with open(os.path.join(HERE, "dpl.lyp"), encoding="utf-8") as file:
-        text = file.read()
-    for letter, number in (("a", "101"), ("b", "102")):
-        text = text.replace("%s/0@2" % number, "%d/0@%d" % (int(option(more, "--" + letter, number)), index + 1))
-    text = text.replace("<name>mask", "<name>%s mask" % escape(layer))
+        text = coloured(file.read(), layer, numbers, index + 1)
     colours = os.path.join(folder, "dpl.lyp")
     with open(colours, "w", encoding="utf-8") as file:
         file.write(text)
@@ -290,27 +320,29 @@ def split(view, cellview, tool, values, layers):
 
 
 def split_in(folder, view, cellview, tool, values, layers):
-    index, rule, overlap, more = values
-    name = re.sub(r"[^\w.-]+", "-", layers[1][index])
+    """Splits a layer by files in a folder."""
+    layer = layers.names[values.place]
+    name = re.sub(r"[^\w.-]+", "-", layer)
     source, masks, certificate, database = (
         os.path.join(folder, n % name) for n in ("layer-%s.gds", "masks-%s.gds", "masks-%s.cert", "masks-%s.lyrdb"))
-    number = save_layer(cellview, layers[0][index], source)
-    words = [tool, "split", "--layer", str(number[0]), "--datatype", str(number[1]), "--rule", str(rule),
-             "--overlap", str(overlap)] + more + [source, masks, certificate]
-    status, line = call(words, layers[1][index])
+    number = save_layers(cellview, layers.indices[values.place], marker_layers(values.more), source)
+    words = [tool, "split", "--layer", str(number[0]), "--datatype", str(number[1]), "--rule", str(values.rule),
+             "--overlap", str(values.overlap)] + values.more + [source, masks, certificate]
+    status, line, told = call(words, layer)
+    said = "\n".join(filter(None, (line, told)))
     if status not in (0, 1, 2):
-        raise Problem("%s\n\n%s" % (FAILURES.get(status, "dpl ended with status %d." % status), line))
+        raise Problem("%s\n\n%s" % (FAILURES.get(status, "dpl ended with status %d." % status), said))
     module = markers_module()
     try:
-        module.build(source, certificate, database, line)
+        module.build(source, certificate, database, line, top=option(values.more, "--top", None))
     except module.Problem as problem:
-        raise Problem("%s\n\nThe markers couldn't be made: %s" % (line, problem)) from None
+        raise Problem("%s\n\nThe markers couldn't be made: %s" % (said, problem)) from None
     close_earlier(view, os.path.basename(masks), os.path.basename(database))
     if status == 0:
-        show_masks(view, masks, layers[1][index], more, folder)
-    count = show_markers(view, cellview, database, layers[1][index])
+        show_masks(view, masks, layer, values.more, folder)
+    count = show_markers(view, cellview, database, layer)
     return "%s\n\n%s\n\nThe files are in %s; the command was:\n%s" % (
-        line, explained(status, line, count, module), folder, " ".join(shlex.quote(word) for word in words))
+        said, explained(status, line, count, module), folder, " ".join(shlex.quote(word) for word in words))
 
 
 def explained(status, line, count, module):
@@ -319,7 +351,8 @@ def explained(status, line, count, module):
         return CONFLICT
     if status == 2:
         fault = line.split()[1]
-        return "The layer is refused: %s.\n\nThe marker browser shows where it is." % module.ADVICE.get(fault, fault)
+        where = "" if fault in module.NOWHERE else "\n\nThe marker browser shows where it is."
+        return "The layer is refused: %s.%s" % (module.ADVICE.get(fault, fault), where)
     stitches = "There is no stitch." if count == 0 else "The marker browser lists the stitches: %d." % count
     return "Mask A is blue, mask B orange; where the colours mix, there is a stitch. " + stitches
 
@@ -335,11 +368,11 @@ def run():
         if tool is None:
             return
         layers = layers_of(view, cellview)
-        form = Form(view, cellview.layout().dbu, layers[1], layers[2])
+        form = Form(cellview.layout().dbu, layers)
         form.exec_()
         if form.values is None:
             return
         text = split(view, cellview, tool, form.values, layers)
         pya.MessageBox.info(TITLE, text, pya.MessageBox.Ok)
-    except Problem as problem:
+    except (Problem, OSError) as problem:
         pya.MessageBox.warning(TITLE, str(problem), pya.MessageBox.Ok)

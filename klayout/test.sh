@@ -3,33 +3,47 @@
 #
 # usage: sh klayout/test.sh [FOLDER]
 #
-# First markers.py and the markers of dplview are tested by Python alone. Then, where KLayout is there, the examples, layouts with
-# faults and each GDSII file in FOLDER go through dpl and KLayout in batch mode. The program dpl is
-# $DPL, or the one that was built in this checkout, or the one on the PATH; so is dplview, $DPLVIEW.
+# First markers.py, parts of menu.py and the markers of dplview are tested by Python alone. Then, where
+# KLayout is there, the examples, layouts with faults and each file *.gds in FOLDER go through dpl and
+# KLayout in batch mode, and the menu entry is tried in a window that no screen shows. The program dpl
+# is $DPL, or the one that was built in this checkout, or the one on the PATH; so is dplview, $DPLVIEW,
+# whose tests are skipped where there is none.
 set -eu
-here=$(cd "$(dirname "$0")" && pwd)
-dpl=${DPL:-}
-for each in "$here/../crates/dpl/out/dpl" "$(command -v dpl || true)"; do
-    [ -n "$dpl" ] || [ ! -x "$each" ] || dpl=$each
-done
-[ -n "$dpl" ] || {
-    echo "klayout/test.sh: no program dpl: build it (sh install.sh), or name it by DPL" >&2
+here=$(CDPATH='' cd -- "$(dirname -- "$0")" && pwd)
+
+fail() {
+    echo "klayout/test.sh: $1" >&2
     exit 1
 }
-view=${DPLVIEW:-}
-for each in "$here/../crates/dplview/out/dplview" "$(command -v dplview || true)"; do
-    [ -n "$view" ] || [ ! -x "$each" ] || view=$each
-done
+
+# path_of NAME GIVEN: where a program is, and nothing where it is nowhere.
+path_of() {
+    built=$here/../crates/$1/out/$1
+    if [ -n "$2" ]; then
+        command -v -- "$2" || fail "no program $2"
+    elif [ -x "$built" ]; then
+        echo "$built"
+    else
+        command -v "$1" || true
+    fi
+}
+
+folder=${1:-}
+[ -z "$folder" ] || [ -d "$folder" ] || fail "no folder $folder"
+dpl=$(path_of dpl "${DPL:-}")
+[ -n "$dpl" ] || fail "no program dpl: build it (sh install.sh), or name it by DPL"
+view=$(path_of dplview "${DPLVIEW:-}")
 DPL=$dpl DPLVIEW=$view python3 -B "$here/test_markers.py"
 command -v klayout >/dev/null 2>&1 || {
     echo "klayout/test.sh: KLayout isn't installed, so what needs it was skipped"
     exit 0
 }
-klayout -b -rd dpl="$dpl" -rd view="$view" -rd files="${1:-}" -r "$here/test_views.py"
+klayout -b -rd dpl="$dpl" -rd view="$view" -rd files="$folder" -r "$here/test_views.py"
 
 # The menu entry, in a window that no screen shows, with settings of its own.
 home=$(mktemp -d)
 trap 'rm -rf "$home"' EXIT
+trap 'exit 1' HUP INT TERM
 mkdir "$home/programs" "$home/temporary"
 ln -s "$(realpath "$dpl")" "$home/programs/dpl"
 HOME=$home TMPDIR=$home/temporary PATH=$home/programs:$PATH DPL_EXAMPLES=$here/../examples QT_QPA_PLATFORM=offscreen \

@@ -1,13 +1,21 @@
-"""Tests of markers.py, without KLayout: small layouts and certificates, and what is drawn of them; and of what dplview draws."""
+"""Tests without KLayout: of markers.py by small layouts and certificates, of what dplview draws, and of parts of menu.py."""
 import os
 import re
 import struct
 import subprocess
+import sys
 import tempfile
+import types
 import unittest
 import xml.etree.ElementTree as xml
+from unittest import mock
 
 import markers
+
+# What menu.py asks of KLayout once it is read.
+PYA = types.SimpleNamespace(QDialog=object, LayerInfo=lambda *numbers: numbers)
+with mock.patch.dict(sys.modules, pya=PYA):
+    import menu
 
 NANOMETRE = bytes.fromhex("3E4189374BC6A7F03944B82FA09B5A54")
 STITCH = """dpl 1
@@ -107,9 +115,10 @@ class Markers(unittest.TestCase):
             with open(name, "wb") as file:
                 file.write(content)
         markers.build(*paths, line=line, **options)
-        items = xml.parse(paths[2]).getroot().find("items")
+        root = xml.parse(paths[2]).getroot()
+        self.descriptions = [description.text for description in root.findall("categories/category/description")]
         return [(item.find("category").text, item.find("cell").text, [v.text for v in item.find("values")])
-                for item in items]
+                for item in root.find("items")]
 
     def fault(self, layout, name, element):
         """The values that are drawn for a fault of this element."""
@@ -192,6 +201,11 @@ class Markers(unittest.TestCase):
         self.assertEqual(self.fault(layout, "SlantedBoundary", slanted), ("TOP", [
             "edge: (0.1,0;0.101,0.02)", "polygon: (0,0;0.1,0;0.101,0.02;0,0.02)"]))
 
+    def test_the_side_that_closes_a_boundary_may_be_the_slanted_one(self):
+        slanted = boundary((0, 0), (100, 0), (100, 20), (5, 20))
+        self.assertEqual(self.fault(library(TOP=[slanted]), "SlantedBoundary", slanted)[1], [
+            "edge: (0.005,0.02;0,0)", "polygon: (0,0;0.1,0;0.1,0.02;0.005,0.02)"])
+
     def test_a_path_has_its_width_and_its_ends(self):
         odd = path(7, 2, (0, 0), (100, 0))
         self.assertEqual(self.fault(library(TOP=[odd]), "OddWidth", odd)[1],
@@ -233,6 +247,20 @@ class Markers(unittest.TestCase):
         layout = library(TOP=[rectangle(0, 0, 10, 10), reference("SUB", (50, 0))], SUB=[rectangle(0, 0, 5, 5), back])
         self.assertEqual(len(self.fault(layout, "Recursion", back)[1]), 2)
 
+    def test_texts_draw_nothing_where_a_reference_is_drawn(self):
+        label = (record(0x0C) + record(0x0D, 2, b"\0\1") + record(0x16, 2, b"\0\0") + points((900, 900))
+                 + text(0x19, "x") + record(0x11))
+        turned = reference("SUB", (0, 0), 0, None, "422D000000000000")
+        values = self.fault(library(SUB=[label], TOP=[turned]), "AngleNotRight", turned)[1]
+        self.assertEqual(values, ["box: (-0.001,-0.001;0.001,0.001)"])
+
+    def test_a_structure_without_a_name_is_none_of_the_cells(self):
+        nameless = library(TOP=[], **{"": []})
+        (mark,) = self.build(nameless, FAULT % ("BadName", nameless.rindex(record(0x06, 6))))
+        self.assertEqual((mark[1], mark[2][1]), ("TOP", "text: 'in structure without a name'"))
+        (mark,) = self.build(nameless, FAULT % ("Unexpected", 0))
+        self.assertEqual((mark[1], mark[2][1]), ("TOP", "text: 'outside of all structures'"))
+
     def test_a_file_that_is_cut_short_shows_the_element_that_it_ends_in(self):
         last = boundary((0, 0), (100, 0), (100, 20), (0, 20), (0, 0))
         layout = library(TOP=[rectangle(0, 0, 5, 5), last])
@@ -245,6 +273,8 @@ class Markers(unittest.TestCase):
         self.assertIn("ONE, TWO", self.build(layout, FAULT % ("ManyTops", 2))[0][2][1])
         self.assertEqual(self.build(b"\x1f\x8b\x08", FAULT % ("Truncated", 0))[0][0], "fault")
         self.assertEqual(len(self.build(layout, FAULT % ("TooManyPoints", 0))[0][2]), 1)
+        for top, cell in (("TWO", "TWO"), ("THREE", "ONE")):
+            self.assertEqual(self.build(layout, FAULT % ("NoTop", 0), top=top)[0][1], cell)
 
     def test_what_check_refused(self):
         slanted = boundary((0, 0), (9, 9), (0, 9), (0, 0))
@@ -257,8 +287,40 @@ class Markers(unittest.TestCase):
             file.write(layout)
         mark = self.build(library(TOP=[]), STITCH, "refused out " + line, masks=masks)[0]
         self.assertIn("edge: (0,0;0.009,0.009)", mark[2])
-        mark = self.build(library(TOP=[]), STITCH.replace("piece 1 B", "piece <1>"), "refused cert Line 5")[0]
-        self.assertEqual(mark[2][1], "text: 'piece <1> 205 0'")
+
+    def test_a_certificate_that_check_refused(self):
+        certificate = STITCH.replace("piece 1 B", "piece <1>")[:-1]
+        for line, texts in (("Line 5", ["line 5 of", "'piece <1> 205 0'"]),
+                            ("Line 10", ["line 10 of", "'end'", "no line feed"]),
+                            ("Line 11", ["line 11 of", "the text ends there"]),
+                            ("Line 18446744073709551615", ["line 18446744073709551615 of", "the text ends there"]),
+                            ("TooLarge 268435456", ["TooLarge 268435456", "the certificate"])):
+            ((category, cell, values),) = self.build(library(TOP=[]), certificate, "refused cert " + line)
+            self.assertEqual((category, cell, len(values)), ("fault", "TOP", len(texts)))
+            for value, part in zip(values, texts):
+                self.assertIn(part, value)
+        self.assertEqual(self.descriptions, ["TooLarge: the certificate has more than 268,435,456 bytes"])
+
+    def test_the_top_of_the_masks_is_no_choice(self):
+        masks = os.path.join(self.folder, "masks.gds")
+        with open(masks, "wb") as file:
+            file.write(library(ONE=[], TWO=[]))
+        (mark,) = self.build(library(TOP=[]), STITCH, "refused out ManyTops 2", masks=masks)
+        self.assertIn("ONE, TWO", mark[2][1])
+        self.assertNotIn("--top", self.descriptions[0])
+        self.build(library(ONE=[], TWO=[]), STITCH, "refused in ManyTops 2")
+        self.assertIn("--top", self.descriptions[0])
+
+    def test_no_other_file_is_overwritten(self):
+        layout, masks = os.path.join(self.folder, "in.gds"), os.path.join(self.folder, "out.lyrdb")
+        with open(masks, "wb") as file:
+            file.write(b"masks")
+        with self.assertRaisesRegex(markers.Problem, "out.lyrdb would be overwritten"):
+            self.build(library(TOP=[]), STITCH, masks=masks)
+        with self.assertRaisesRegex(markers.Problem, "in.gds would be overwritten"):
+            markers.build(layout, os.path.join(self.folder, "cert"), os.path.join(self.folder, ".", "in.gds"))
+        with open(layout, "rb") as file:
+            self.assertEqual(file.read(), library(TOP=[]))
 
     def test_names_and_texts_are_escaped(self):
         layout = library(**{"A<&>'\\\1": []})
@@ -275,10 +337,12 @@ class Markers(unittest.TestCase):
     def test_what_is_no_certificate_and_no_line_makes_no_database(self):
         for certificate, place in ((STITCH[:-4], 10), (STITCH[:-1], 10), (STITCH.replace("A 0 0", "C 0 0"), 4),
                                    ("dpl 9\n", 1), ("", 1), (CYCLE.replace("near 20", "near x"), 9), (GAINS.replace("gain 0", "gain A"), 11),
-                                   (ANCHORED.replace("anchor B", "anchor C"), 5), (FAULT.replace("1", "2"), 2)):
+                                   (ANCHORED.replace("anchor B", "anchor C"), 5), (FAULT.replace("1", "2"), 2),
+                                   ((FAULT % ("NoTop", 0))[:-4], 3), (STITCH + "end\n", 11), (CYCLE + "\n", 12)):
             with self.assertRaisesRegex(markers.Problem, "line %d " % place):
                 self.build(library(TOP=[]), certificate)
-        for line in ("", "usage: dpl", "no Cover 5", "no Cover a b", "no Such 1", "no Rules 30", "refused in", "no Stitch 2"):
+        for line in ("", "usage: dpl", "no Cover 5", "no Cover a b", "no Such 1", "no Rules 30", "no Cover 1 2 3",
+                     "refused in", "no Stitch 2", "refused edits Line 3"):
             with self.assertRaises(markers.Problem):
                 self.build(library(TOP=[]), STITCH, line)
         self.assertEqual(sorted(os.listdir(self.folder)), ["cert", "in.gds"])
@@ -301,6 +365,68 @@ class Markers(unittest.TestCase):
         self.assertEqual([value.text for value in item.findall("values/value")], [
             "text: 'cycle 0: 3 pieces'",
             "path: (0.001,0;0.02,0;0.02,0.001;0.011,0.02;0.01,0.02;0.001,0.001;0.001,0) w=0 bx=0 ex=0 r=false"])
+
+
+class Menu(unittest.TestCase):
+    """What of the menu entry needs no window."""
+
+    def test_lengths_are_database_units(self):
+        for words, unit, units in (("0.03", 0.001, 30), (" 0,03 ", 0.001, 30), ("0.00025", 5e-05, 5),
+                                   ("1000", 0.001, 1000000)):
+            self.assertEqual(menu.units_of(words, unit, "rule"), units)
+        for words in ("", "x", "nan", "1/0", "0.0305", "0", "-0.03", "1000.001"):
+            with self.assertRaises(menu.Problem):
+                menu.units_of(words, 0.001, "rule")
+
+    def test_options_among_words(self):
+        words = ["--a", "7", "--mark-b=5", "--fewer", "--mark-a", "7"]
+        self.assertEqual([menu.option(words, name, "102") for name in ("--a", "--b", "--mark-b")], ["7", "102", "5"])
+        self.assertEqual(menu.marker_layers(words), [5, 7])
+        self.assertEqual(menu.marker_layers(["--mark-a", "x", "--mark-b"]), [])
+
+    def test_each_mask_has_its_colour(self):
+        with open(os.path.join(menu.HERE, "dpl.lyp"), encoding="utf-8") as file:
+            text = file.read()
+        for numbers in ((101, 102), (102, 101), (7, 102)):
+            root = xml.fromstring(menu.coloured(text, "<1/0>", numbers, 2).encode())
+            entries = [[entry.find(part).text for part in ("source", "name", "fill-color")]
+                       for entry in root.findall("properties")]
+            self.assertEqual(entries[1:], [["%d/0@2" % numbers[0], "<1/0> mask A", "#3b8eff"],
+                                           ["%d/0@2" % numbers[1], "<1/0> mask B", "#ff9020"]])
+
+    def test_markers_are_written_with_their_layer(self):
+        for info, layers, number in (((1, 0), {(1, 0): 4, (7, 0): 5}, (1, 0)), ((-1, -1), {(1, 0): 4, (7, 0): 5}, (2, 0)),
+                                     ((7, 0), {(1, 0): 4, (7, 0): 5}, (7, 0))):
+            index = layers.get(info, 6)
+            written, cellview = self.cell_view(info, layers)
+            self.assertEqual(menu.save_layers(cellview, index, [1, 7], "path"), number)
+            self.assertEqual(written, {**layers, number: index})
+            with self.assertRaisesRegex(menu.Problem, "no layer 3/0"):
+                menu.save_layers(cellview, index, [3], "path")
+
+    def cell_view(self, info, layers):
+        """What stands for the view of a cell with these layers, and what of it is written."""
+        written = {}
+        options = types.SimpleNamespace(select_cell=lambda cell: None, deselect_all_layers=written.clear,
+                                        add_layer=lambda index, numbers: written.update({numbers: index}))
+        PYA.SaveLayoutOptions = lambda: options
+        layout = types.SimpleNamespace(
+            get_info=lambda index: types.SimpleNamespace(layer=info[0], datatype=info[1]),
+            find_layer=lambda *numbers: layers.get(numbers), write=lambda path, options: None)
+        box = types.SimpleNamespace(empty=lambda: False)
+        cell = types.SimpleNamespace(bbox_per_layer=lambda index: box)
+        return written, types.SimpleNamespace(layout=lambda: layout, cell=cell, cell_index=0)
+
+    def test_what_dpl_says_and_what_it_tells_standard_error_stay_apart(self):
+        PYA.AbsoluteProgress = lambda title: types.SimpleNamespace(set=lambda value, force: None, _destroy=lambda: None)
+        words = "import sys; print('done'); print('dpl: the layer is empty', file=sys.stderr); sys.exit(3)"
+        self.assertEqual(menu.call([sys.executable, "-c", words], "1/0"), (3, "done", "dpl: the layer is empty"))
+        with self.assertRaisesRegex(menu.Problem, "/nowhere/dpl: "):
+            menu.call(["/nowhere/dpl"], "1/0")
+
+    def test_a_refusal_without_a_place_shows_none(self):
+        for line, has_place in (("refused TooManyPoints 0", False), ("refused OddWidth 98", True)):
+            self.assertIs("shows where" in menu.explained(2, line, 1, markers), has_place)
 
 
 if __name__ == "__main__":

@@ -82,6 +82,31 @@ def test_a_second_split_takes_the_place_of_the_first():
     assert entries(view)[1:] == [("7/0", "1/0 mask A"), ("8/0", "1/0 mask B")], entries(view)
 
 
+def test_masks_that_change_their_numbers_keep_their_colours():
+    view = example("stitch")
+    split(more="--a 102 --b 101")
+    assert entries(view)[1:] == [("102/0", "1/0 mask A"), ("101/0", "1/0 mask B")], entries(view)
+
+
+def test_markers_are_split_with_their_layer():
+    view = example("markers")
+    choose(view, view.active_cellview().layout().find_layer(1, 0))
+    (text,) = split(more="--mark-b 7")
+    assert text.startswith("done features 2 pieces 2 zones 0 stitches 0 a 1 b 1\n"), text
+    (text,) = split(more="--mark-b 8")
+    assert text == "The layout has no layer 8/0, which the options name for markers.", text
+
+
+def test_a_layer_without_a_square():
+    layout = pya.Layout()
+    layout.create_cell("TOP").shapes(layout.layer(1, 0)).insert(pya.Path([pya.Point(0, 0), pya.Point(100, 0)], 0))
+    path = os.path.join(FOLDER, "nothing.gds")
+    layout.write(path)
+    load(path)
+    (text,) = split()
+    assert text.startswith("done features 0 ") and "the layer is empty" in text, text
+
+
 def test_a_conflict_shows_its_cycle():
     view = example("conflict")
     (text,) = split()
