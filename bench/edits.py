@@ -4,24 +4,28 @@
 usage: edits.py DPL FILE COUNT [SEED [EVERY]]
 
 DPL is the program, FILE a GDSII file of one structure whose elements all are rectangles on layer 1, datatype 0,
-as layouts.py writes them. COUNT edits are made up from SEED (default: 1): rectangles are drawn beside shapes, over them and far from them,
-and shapes are taken away, whole or in part. Behind each EVERY edits (default: 1), and behind the last one, the layout is written as it is then;
-`dpl edit` of FILE with the edits so far and `dpl split` of that layout must both end as done or in conflict, say the same
-line and leave the same bytes in OUT and CERT. Where they don't, it ends with 1, and says where the files are. At its end it says how many
-were compared, how many were in conflict, and the seconds of both programs. The words RULES, from the environment,
-stand in each command (default: --rule 30 --overlap 10).
+as layouts.py writes them. COUNT edits are made up from SEED (default: 1): rectangles are drawn beside shapes, over
+them and far from them, and shapes are taken away, whole or in part. Behind each EVERY edits (default: 1), and behind
+the last one, the layout is written as it is then; `dpl edit` of FILE with the edits so far and `dpl split` of that
+layout must both end as done or in conflict, say the same line and leave the same bytes in OUT and CERT. Where they
+don't, it ends with 1, and says where the files are. At its end it says how many were compared, how many were in
+conflict, and the seconds of both commands by the clock. The words RULES, from the environment, stand in each command
+(default: --rule 30 --overlap 10).
 """
 import collections
 import os
 import random
 import shutil
 import struct
-import subprocess
 import sys
 import tempfile
-import time
 
+import timed
+
+# The side of the squares of the grid.
 SIDE = 2000
+# What a boundary begins with that is a rectangle on layer 1, datatype 0, and what it ends with.
+BEGIN, END = bytes.fromhex("00040800 00060D020001 00060E020000 002C1003"), bytes.fromhex("00041100")
 
 
 class Layout:
@@ -33,8 +37,8 @@ class Layout:
         self.read(file)
 
     def read(self, file):
-        data = open(file, "rb").read()
-        at, element, first = 0, None, None
+        data = content(file)
+        at, element, first, last = 0, None, None, None
         while at + 4 <= len(data):
             length, kind = struct.unpack(">HH", data[at : at + 4])
             if kind == 0x0800:
@@ -42,19 +46,18 @@ class Layout:
                 element = b""
             if element is not None:
                 element += data[at : at + length]
-            if kind == 0x1100 and element is not None:
-                if element[4:16] != b"\0\6\x0d\2\0\1\0\6\x0e\2\0\0":
-                    sys.exit("an element isn't a boundary on layer 1, datatype 0")
-                points = struct.unpack(">10i", element[element.index(b"\x10\x03") + 2 :][:40])
-                xs, ys = points[::2], points[1::2]
-                self.add((min(xs), min(ys), max(xs), max(ys)))
+            if kind == 0x1100:
+                self.add(rectangle_of(element))
                 element, last = None, at + length
-            at += length
+            at += max(length, 4)
             if kind == 0x0400:
                 break
+        if first is None:
+            sys.exit(f"{file} has no rectangle")
         self.front, self.back = data[:first], data[last:at]
 
     def touched(self, rect):
+        """The squares of the grid that a rectangle meets."""
         for x in range(rect[0] // SIDE, (rect[2] - 1) // SIDE + 1):
             for y in range(rect[1] // SIDE, (rect[3] - 1) // SIDE + 1):
                 yield x, y
@@ -64,8 +67,7 @@ class Layout:
         self.next += 1
         self.rects[name] = rect
         x0, y0, x1, y1 = rect
-        shape = struct.pack(">10i", x0, y0, x1, y0, x1, y1, x0, y1, x0, y0)
-        self.drawn[name] = b"\0\4\x08\0\0\6\x0d\2\0\1\0\6\x0e\2\0\0\0\x2c\x10\3" + shape + b"\0\4\x11\0"
+        self.drawn[name] = BEGIN + struct.pack(">10i", x0, y0, x1, y0, x1, y1, x0, y1, x0, y0) + END
         for cell in self.touched(rect):
             self.cells[cell].add(name)
 
@@ -89,6 +91,20 @@ class Layout:
             out.write(self.front + b"".join(self.drawn.values()) + self.back)
 
 
+def rectangle_of(element):
+    """The rectangle that an element draws."""
+    if element is None or len(element) != 64 or not element.startswith(BEGIN) or not element.endswith(END):
+        sys.exit("an element isn't a boundary of five points on layer 1, datatype 0")
+    flat = struct.unpack(">10i", element[len(BEGIN) : -len(END)])
+    points = list(zip(flat[::2], flat[1::2]))
+    (x0, y0), (x1, y1) = min(points), max(points)
+    corners = [(x0, y0), (x1, y0), (x1, y1), (x0, y1)]
+    ways = [way[i:] + way[:i] for way in (corners, corners[::-1]) for i in range(4)]
+    if x0 == x1 or y0 == y1 or points[:4] not in ways or points[4] != points[0]:
+        sys.exit("a boundary isn't a rectangle")
+    return x0, y0, x1, y1
+
+
 def made_up(layout, rng):
     """One edit: what is done, and its rectangle."""
     names = list(layout.rects)
@@ -109,42 +125,46 @@ def made_up(layout, rng):
     return "add", (x, y, x + rng.randrange(1, 500), y + rng.randrange(1, 500))
 
 
-def run(words):
-    begun = time.monotonic()
-    child = subprocess.run(words, capture_output=True)
-    return (child.returncode, child.stdout), time.monotonic() - begun
+def kept(work):
+    """A copy of a folder, which stays when that one goes."""
+    return shutil.copytree(work, tempfile.mkdtemp(), dirs_exist_ok=True)
 
 
 def content(file):
-    return open(file, "rb").read() if os.path.exists(file) else None
+    """The bytes of a file."""
+    with open(file, "rb") as opened:
+        return opened.read()
+
+
+def compared(dpl, rules, file, work):
+    """Runs `dpl edit` of the file, and `dpl split` of what is drawn; both runs, which must have one answer."""
+    edits, drawn, *made = (os.path.join(work, name) for name in ("edits", "drawn.gds", "e.gds", "e.cert", "s.gds", "s.cert"))
+    for path in made:
+        if os.path.exists(path):
+            os.remove(path)
+    edited = timed.run([dpl, "edit", *rules, file, edits, *made[:2]])
+    split = timed.run([dpl, "split", *rules, "--workers", "1", drawn, *made[2:]])
+    contents = [content(path) if os.path.exists(path) else None for path in made]
+    if edited.status not in (0, 1) or edited[:2] != split[:2] or contents[:2] != contents[2:]:
+        sys.exit(f"edit: {edited[:2]}, split: {split[:2]}; the files are in {kept(work)}")
+    return edited, split
 
 
 def main(dpl, file, count, seed=1, every=1):
     rules = os.environ.get("RULES", "--rule 30 --overlap 10").split() + ["--layer", "1"]
-    layout, rng, work = Layout(file), random.Random(int(seed)), tempfile.mkdtemp()
-    at = {it: f"{work}/{it}" for it in ("edits", "drawn.gds", "e.gds", "e.cert", "s.gds", "s.cert")}
-    open(at["edits"], "w").close()
-    compared, conflicts, edit_seconds, split_seconds = 0, 0, 0.0, 0.0
-    for i in range(1, int(count) + 1):
-        what, rect = made_up(layout, rng)
-        getattr(layout, what)(rect)
-        with open(at["edits"], "a") as out:
+    layout, rng, runs = Layout(file), random.Random(int(seed)), []
+    with tempfile.TemporaryDirectory() as work, open(os.path.join(work, "edits"), "w", encoding="utf-8") as out:
+        for number in range(1, int(count) + 1):
+            what, rect = made_up(layout, rng)
+            getattr(layout, what)(rect)
             out.write("%s %d %d %d %d\n" % (what, *rect))
-        if i % int(every) and i < int(count):
-            continue
-        for it in ("e.gds", "e.cert", "s.gds", "s.cert"):
-            if os.path.exists(at[it]):
-                os.remove(at[it])
-        layout.write(at["drawn.gds"])
-        edited, seconds = run([dpl, "edit", *rules, file, at["edits"], at["e.gds"], at["e.cert"]])
-        edit_seconds += seconds
-        split, seconds = run([dpl, "split", *rules, "--workers", "1", at["drawn.gds"], at["s.gds"], at["s.cert"]])
-        split_seconds += seconds
-        if edited[0] > 1 or edited != split or content(at["e.gds"]) != content(at["s.gds"]) or content(at["e.cert"]) != content(at["s.cert"]):
-            sys.exit(f"edit {i}: {edited} and {split}; the files are in {work}")
-        compared, conflicts = compared + 1, conflicts + (split[0] == 1)
-    shutil.rmtree(work)
-    print(f"compared {compared}, in conflict {conflicts}, edit {edit_seconds:.1f} s, split {split_seconds:.1f} s")
+            if number % int(every) == 0 or number == int(count):
+                out.flush()
+                layout.write(os.path.join(work, "drawn.gds"))
+                runs.append(compared(dpl, rules, file, work))
+    conflicts = sum(edited.status == 1 for edited, _ in runs)
+    seconds = [sum(one.seconds for one in half) for half in zip(*runs)] or [0, 0]
+    print("compared %d, in conflict %d, edit %.1f s, split %.1f s" % (len(runs), conflicts, *seconds))
 
 
 if __name__ == "__main__":

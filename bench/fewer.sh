@@ -9,42 +9,39 @@
 # stitches without and with the flag, of both the least seconds of user and system and the MiB of that run, and the
 # ratio of the seconds. With CHECK=1 the result is checked too. It ends with 1 where a run isn't done.
 set -eu
-here=$(cd "$(dirname "$0")" && pwd)
+here=$(CDPATH='' cd -- "$(dirname -- "$0")" && pwd)
 . "$here/words.sh"
-read_words 3 "bars:1000000 stitched:100000" "$@"
-for layout in $rest; do
+read_words 3 "" "$@"
+if [ $# -gt 2 ]; then
+    shift 2
+else
+    set -- bars:1000000 stitched:100000
+fi
+for layout; do
     file=$layout
     case $layout in
     *:*)
-        file=$work/in.gds
-        python3 "$here/layouts.py" "${layout%%:*}" "${layout#*:}" 1 "$file"
+        if [ ! -e "$layout" ]; then
+            file=$work/in.gds
+            python3 -B "$here/layouts.py" "${layout%%:*}" "${layout#*:}" 1 "$file"
+        fi
         ;;
     esac
-    python3 - "$dpl" "$second" "$layout" "$file" "$work" "${RULES:---layer 1 --rule 30 --overlap 10}" "${CHECK:-}" <<'PY'
-import os, re, subprocess, sys
-dpl, rounds, layout, file, work, rules, check = sys.argv[1:8]
-files = [file, work + "/out.gds", work + "/cert"]
-
-
-def run(command, flags):
-    with open(work + "/line", "w") as said:
-        child = subprocess.Popen([dpl, command, *rules.split(), *flags, *files], stdout=said)
-        _, status, usage = os.wait4(child.pid, 0)
-    line = open(work + "/line").read().strip()
-    if status != 0:
-        sys.exit("%s: %s %s: status %d: %s" % (layout, command, " ".join(flags), os.waitstatus_to_exitcode(status), line))
-    return usage.ru_utime + usage.ru_stime, usage.ru_maxrss / 1024, line
-
-
+    measure "$dpl" "$second" "$layout" "$file" "$work" "${RULES:---layer 1 --rule 30 --overlap 10}" "${CHECK:-}" <<'PY'
+import re, sys
+import timed
+dpl, rounds, layout, file, work, rules, check = sys.argv[1:]
+rules, files = rules.split(), [file, work + "/out.gds", work + "/cert"]
 least = {}
 for _ in range(int(rounds)):
-    for flags in (["--workers", "1"], ["--workers", "1", "--fewer"]):
-        least[len(flags)] = min(run("split", flags), least.get(len(flags), (float("inf"),)))
-(plain, much, line), (few, most, fewer_line) = least[2], least[3]
-stitches = [re.search(r"stitches (\d+)", it)[1] for it in (line, fewer_line)]
-print("%-16s stitches %s, with --fewer %s; %.2f s %.0f MiB, with --fewer %.2f s %.0f MiB, x%.2f" % (
-    layout, *stitches, plain, much, few, most, few / max(plain, 0.01)), flush=True)
+    for flags in ((), ("--fewer",)):
+        done = timed.run_to((0,), [dpl, "split", *rules, "--workers", "1", *flags, *files])
+        least[flags] = min(least.get(flags, done), done, key=lambda one: one.used)
+plain, fewer = least.values()
+stitches = [re.search(r"stitches (\d+)", one.said)[1] for one in (plain, fewer)]
+print("%-16s stitches %s, with --fewer %s; %.2f s %.0f MiB, with --fewer %.2f s %.0f MiB, %s" % (
+    layout, *stitches, plain.used, plain.mib, fewer.used, fewer.mib, timed.times(fewer.used, plain.used)), flush=True)
 if check:
-    print("%-16s %s" % (layout, run("check", [])[2]), flush=True)
+    print("%-16s %s" % (layout, timed.run_to((0,), [dpl, "check", *rules, *files]).said.strip()), flush=True)
 PY
 done

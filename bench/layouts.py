@@ -146,9 +146,6 @@ def polygons(count, rng):
             height = rng.randrange(200, 700)
             points += [(x, y + 100), (x, y + height), (x + 20, y + height), (x + 20, y + 100)]
         points += [(100 * teeth, y + 100), (100 * teeth, y), (0, y)]
-        # No point may repeat the one before it along the first edge.
-        points.pop(1)
-        points.insert(1, (0, y + 100))
         yield boundary(points)
 
 
@@ -274,23 +271,23 @@ KINDS = {f.__name__: f for f in (
 TREES = {f.__name__: f for f in (chain, doubling, twisted, ring, tower)}
 
 
-def main(words):
-    if len(words) > 2 and words[0] == "rects":
-        parts = structure("TOP", (rect(*map(int, w.split(","))) for w in words[2:]))
-        path = words[1]
-    elif len(words) == 4 and words[0] in KINDS:
-        parts = structure("TOP", KINDS[words[0]](int(words[1]), random.Random(int(words[2]))))
-        path = words[3]
-    elif len(words) == 4 and words[0] in TREES:
-        parts = TREES[words[0]](int(words[1]))
-        path = words[3]
-    else:
-        sys.exit(__doc__)
+def write(path, parts):
+    """Writes the parts of structures as a file."""
     with open(path, "wb") as out:
         out.write(FRONT)
-        for part in parts:
-            out.write(part)
+        out.writelines(parts)
         out.write(BACK)
+
+
+def main(words):
+    if len(words) > 2 and words[0] == "rects":
+        write(words[1], structure("TOP", (rect(*map(int, w.split(","))) for w in words[2:])))
+    elif len(words) == 4 and words[0] in KINDS:
+        write(words[3], structure("TOP", KINDS[words[0]](int(words[1]), random.Random(int(words[2])))))
+    elif len(words) == 4 and words[0] in TREES:
+        write(words[3], TREES[words[0]](int(words[1])))
+    else:
+        sys.exit(__doc__)
 
 
 if __name__ == "__main__":

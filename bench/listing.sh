@@ -8,12 +8,14 @@
 # environment, default: 3), by one worker, and its ratio to the split. It ends with 1 where a run doesn't end
 # with 1, the status of a conflict.
 set -eu
-here=$(cd "$(dirname "$0")" && pwd)
-work=$(mktemp -d)
-trap 'rm -rf "$work"' EXIT
-python3 "$here/layouts.py" triangles "${3:-333333}" 1 "$work/in.gds"
-python3 - "$1" "$2" "$work" "${ROUNDS:-3}" <<'PY'
-import os, subprocess, sys
+here=$(CDPATH='' cd -- "$(dirname -- "$0")" && pwd)
+. "$here/words.sh"
+[ $# -eq 2 ] || [ $# -eq 3 ] || usage
+begin "$1" "$2"
+python3 -B "$here/layouts.py" triangles "${3:-333333}" 1 "$work/in.gds"
+measure "$1" "$2" "$work" "${ROUNDS:-3}" <<'PY'
+import sys
+import timed
 dpl, dplview, work, rounds = sys.argv[1:]
 rules = ["--layer", "1", "--rule", "30", "--overlap", "10", "--workers", "1"]
 files = [work + "/" + name for name in ("in.gds", "out", "cert")]
@@ -24,14 +26,11 @@ runs = {
     "lines and markers": [dplview, "conflicts"] + rules + files[:2],
     "JSON and markers": [dplview, "conflicts", "--json"] + rules + files[:2],
 }
-seconds = {name: [] for name in runs}
+least = {}
 for _ in range(int(rounds)):
     for name, words in runs.items():
-        with open(work + "/said", "w") as said:
-            _, status, usage = os.wait4(subprocess.Popen(words, stdout=said).pid, 0)
-        if os.waitstatus_to_exitcode(status) != 1:
-            sys.exit("%s ended with %d" % (" ".join(words), os.waitstatus_to_exitcode(status)))
-        seconds[name].append(usage.ru_utime + usage.ru_stime)
-for name, times in seconds.items():
-    print("%-18s %7.2f s x%.2f" % (name, min(times), min(times) / min(seconds["split"])), flush=True)
+        used = timed.run_to((1,), words).used
+        least[name] = min(least.get(name, used), used)
+for name, used in least.items():
+    print("%-18s %7.2f s %s" % (name, used, timed.times(used, least["split"])), flush=True)
 PY

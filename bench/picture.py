@@ -3,10 +3,10 @@
 
 usage: picture.py IN CERT [OUT] > PICTURE
 
-IN is a GDSII file of boundaries in one structure, as layouts.py writes it, and CERT the certificate.
-OUT has the masks, where there are some: layer 101 is mask A, 102 mask B. Pieces are numbered at
-their least squares, stitches are outlined. A cycle of conflicts is drawn as lines between the near
-squares of its pieces.
+IN is a GDSII file of boundaries of one layer in one structure, as layouts.py writes it, and CERT the
+certificate. OUT has the masks, where there are some: layer 101 is mask A, 102 mask B. Pieces are
+numbered at their least squares, stitches are outlined. A cycle of conflicts is drawn as lines between
+the near squares of its pieces.
 """
 import struct
 import sys
@@ -16,7 +16,9 @@ A_COLOUR, B_COLOUR, MARGIN = "#3b7dd8", "#f08c2e", 20
 
 def shapes(path):
     """The boundaries of a file: the layer and the points of each."""
-    data, at, layer, found = open(path, "rb").read(), 0, 0, []
+    with open(path, "rb") as file:
+        data = file.read()
+    at, layer, found = 0, 0, []
     while at + 4 <= len(data):
         length, kind = struct.unpack(">HB", data[at:at + 3])
         body = data[at + 4:at + length]
@@ -27,7 +29,7 @@ def shapes(path):
             found.append((layer, list(zip(numbers[::2], numbers[1::2]))))
         elif kind == 0x04:
             break
-        at += length
+        at += max(length, 4)
     return found
 
 
@@ -83,7 +85,8 @@ def draw_layer(drawing, layer, title):
 
 def main(layout, certificate, masks=None):
     layer = [p for _, p in shapes(layout)]
-    lines = [line.split() for line in open(certificate).read().splitlines()]
+    with open(certificate, encoding="utf-8") as file:
+        lines = [line.split() for line in file]
     pieces = [line for line in lines if line[0] == "piece"]
     drawing = Drawing(layer)
     if masks is None:

@@ -15,7 +15,7 @@ the last one, a split by one worker must have as many pieces, and lines of the s
 
 It prints how many answers were compared, how many of them are in conflict and how many are wrong; the seconds of the opening;
 the least, the median and the greatest milliseconds of an edit; and the median seconds of a split, by the clock, from file to
-file. It ends with 0 where no answer is wrong, else with 1."""
+file. It ends with 0 where no answer is wrong, else with 1, and says where the files are."""
 import os
 import random
 import shutil
@@ -28,6 +28,7 @@ HERE = os.path.dirname(os.path.abspath(__file__))
 sys.path.insert(0, os.path.join(HERE, "..", "tools"))
 import edits
 import prove
+import timed
 
 NAME = "session_run"
 # What it stands on: crates of TOP, and of the kit.
@@ -42,42 +43,18 @@ ghosts-edit_in_turn a = record {{ name = a.blank.name; parts = a.blank.parts }}
 """
 
 
-def open_crate(top, lane):
-    """Makes a lane over the libraries of TOP in which the program is a crate; gives that one's folder."""
-    needs = prove.read_needs(top)
-    libraries = set().union(*(prove.below(needs, name, set()) for name in NEEDS))
-    for name in sorted(libraries):
-        if not os.path.isdir(prove.library(top, name)):
-            sys.exit(f"crates/{name} isn't proved there: rt lib in that folder, or rt all check")
-    prove.open_lane(top, lane)
-    for name in libraries:
-        prove.link_tree(prove.library(top, name), prove.library(lane, name))
-    with open(os.path.join(lane, "crates.txt"), "a", encoding="utf-8") as file:
-        file.write(f"{NAME}: {' '.join(NEEDS + KIT)}\n")
-    folder = os.path.join(lane, "crates", NAME)
-    os.makedirs(os.path.join(folder, "src"))
-    os.makedirs(os.path.join(folder, "proofs", "main"))
-    shutil.copy(os.path.join(HERE, NAME + ".rattle"), os.path.join(folder, "src", "main.rt"))
-    with open(os.path.join(folder, "proofs", "main", "Invariants.antt"), "w", encoding="utf-8") as file:
-        file.write(PICK)
-    return folder
-
-
 def build(top):
     """Proves and builds the program over the libraries of TOP; gives its path."""
     lane, program = os.path.join(top, "out", "session"), os.path.join(top, "out", NAME)
     try:
-        folder = open_crate(top, lane)
-        # Without words it ends with 1, once it is proved and built.
-        how = {"stdin": subprocess.DEVNULL, "stdout": subprocess.PIPE, "stderr": subprocess.STDOUT}
-        ran = subprocess.run(["rt", "run", "--jobs", "1"], cwd=folder, text=True, check=False, **how)
-        made = os.path.join(folder, "out", NAME)
-        if not os.access(made, os.X_OK):
-            sys.exit(f"{ran.stdout}\n{NAME} was not built")
-        shutil.copy(made, program)
+        folder = prove.open_crate(top, lane, NAME, NEEDS + KIT, os.path.join(HERE, NAME + ".rattle"))
+        os.makedirs(os.path.join(folder, "proofs", "main"))
+        with open(os.path.join(folder, "proofs", "main", "Invariants.antt"), "w", encoding="utf-8") as file:
+            file.write(PICK)
+        shutil.copy(prove.build_crate(folder, NAME), program)
     finally:
         # What lies below TOP may have no crates.txt of its own.
-        shutil.rmtree(lane, ignore_errors=True)
+        prove.clear(lane)
     return program
 
 
@@ -100,10 +77,10 @@ def split(dpl, layout, work):
     for file in files:
         if os.path.exists(file):
             os.remove(file)
-    (status, said), seconds = edits.run([dpl, "split", "--layer", "1", *RULES, "--workers", "1", layout, *files])
-    if status > 1:
-        sys.exit(f"{layout}: status {status}: {said.decode()}")
-    return answer_of(files[1]), status == 1, seconds
+    ran = timed.run([dpl, "split", "--layer", "1", *RULES, "--workers", "1", layout, *files])
+    if ran.status not in (0, 1):
+        sys.exit(f"split of {os.path.basename(layout)}: status {ran.status}: {ran.said}; the files are in {edits.kept(work)}")
+    return answer_of(files[1]), ran.status == 1, ran.seconds
 
 
 def make_edits(dpl, file, count, seed, every, work):
@@ -116,6 +93,7 @@ def make_edits(dpl, file, count, seed, every, work):
             getattr(layout, what)(rect)
             out.write("%s %d %d %d %d\n" % (what, *rect))
             if number % every == 0 or number == count:
+                out.flush()
                 layout.write(drawn)
                 splits[number] = split(dpl, drawn, work)
     return listed, splits
@@ -125,7 +103,7 @@ def trace(program, file, listed):
     """The answers of the session, and the microseconds that each took, by how many edits were made."""
     ran = subprocess.run([program, file, listed, RULES[1], RULES[3]], stdout=subprocess.PIPE, text=True, check=False)
     if ran.returncode:
-        sys.exit(f"{program}: status {ran.returncode}; the edits are in {listed}")
+        sys.exit(f"{program}: status {ran.returncode}; the files are in {edits.kept(os.path.dirname(listed))}")
     answers, times = {}, {}
     for line in ran.stdout.splitlines():
         number, took, count, bits = line.split()
@@ -133,22 +111,27 @@ def trace(program, file, listed):
     return answers, times
 
 
-def main(top, dpl, file, count, seed=1, every=1):
-    top, work = os.path.abspath(top), tempfile.mkdtemp()
-    program = os.environ.get("PROGRAM") or build(top)
-    listed, splits = make_edits(dpl, file, int(count), int(seed), int(every), work)
-    answers, times = trace(program, file, listed)
+def report(splits, answers, times):
+    """Prints what was compared and what it took; gives how many answers are wrong."""
     wrong = [number for number, (answer, _, _) in splits.items() if answers.get(number) != answer]
     for number in wrong:
-        print(f"after {number} edits the session has {answers.get(number)} and the split {splits[number][0]}; the edits are in {listed}")
+        print(f"after {number} edits the session has {answers.get(number)} and the split {splits[number][0]}")
     conflicts = sum(is_odd for _, is_odd, _ in splits.values())
     print(f"compared {len(splits)}, in conflict {conflicts}, wrong {len(wrong)}; opening {times.pop(0) / 1e6:.2f} s", end="")
     if times:
         least, median, most = (it / 1e3 for it in (min(times.values()), statistics.median(times.values()), max(times.values())))
         print(f", an edit {least:.1f} to {most:.1f} ms, median {median:.1f} ms", end="")
     print(f"; a split {statistics.median(seconds for _, _, seconds in splits.values()):.2f} s")
-    if not wrong:
-        shutil.rmtree(work)
+    return len(wrong)
+
+
+def main(top, dpl, file, count, seed=1, every=1):
+    program = os.environ.get("PROGRAM") or build(os.path.abspath(top))
+    with tempfile.TemporaryDirectory() as work:
+        listed, splits = make_edits(dpl, file, int(count), int(seed), int(every), work)
+        wrong = report(splits, *trace(program, file, listed))
+        if wrong:
+            print(f"the files are in {edits.kept(work)}")
     return 1 if wrong else 0
 
 

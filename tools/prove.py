@@ -8,7 +8,10 @@ above it first; as many go side by side as there are processors, and memory for.
 It ends with 0 where TOP/crates/NAME/out/NAME is there for both, else with 1, after what the prover said of the first crate that failed.
 
 A command of the kit locks the crate that it proves and all below it. So each of those that go side by side has a lane, a copy
-of the sources below TOP/out/lanes, to which the libraries below its crate are linked."""
+of the sources below TOP/out/lanes, to which the libraries below its crate are linked. The lanes are taken away at the end.
+
+Other scripts build a program of their own in a lane: open_crate, build_crate."""
+import contextlib
 import os
 import shutil
 import subprocess
@@ -101,6 +104,44 @@ def library(top, name):
     return os.path.join(top, "crates", name, "out", "rlib")
 
 
+def open_crate(top, lane, name, needs, source):
+    """Makes a lane over the libraries of TOP with a crate more, a program of one source file; gives that one's folder.
+
+    It stands on the crates `needs`, of TOP and of the kit; those of TOP must be proved there."""
+    known = read_needs(top)
+    libraries = set().union(*(below(known, need, set()) for need in needs if need in known))
+    for other in sorted(libraries):
+        if not os.path.isdir(library(top, other)):
+            sys.exit(f"crates/{other} isn't proved in {top}: rt lib in its folder, or tools/prove.py for all that dpl and dplview stand on")
+    open_lane(top, lane)
+    for other in libraries:
+        link_tree(library(top, other), library(lane, other))
+    with open(os.path.join(lane, "crates.txt"), "a", encoding="utf-8") as file:
+        file.write(f"{name}: {' '.join(needs)}\n")
+    folder = os.path.join(lane, "crates", name)
+    os.makedirs(os.path.join(folder, "src"))
+    shutil.copy(source, os.path.join(folder, "src", "main.rt"))
+    return folder
+
+
+def build_crate(folder, name):
+    """Proves and builds the program of a crate, which ends at once without words; gives its path."""
+    ran = call_kit(["run", "--jobs", "1"], folder)
+    program = os.path.join(folder, "out", name)
+    if not os.access(program, os.X_OK):
+        sys.exit(f"{ran.stdout}\n{name} was not built")
+    return program
+
+
+def call_kit(words, folder):
+    """Calls the kit's command in a folder; gives how it ended, and what it said."""
+    how = {"stdin": subprocess.DEVNULL, "stdout": subprocess.PIPE, "stderr": subprocess.STDOUT}
+    try:
+        return subprocess.run(["rt", *words], cwd=folder, encoding="utf-8", errors="replace", check=False, **how)
+    except FileNotFoundError:
+        sys.exit("the command rt of the Rattle kit is not on the PATH")
+
+
 def prove(top, lane, name, libraries, jobs):
     """Proves and builds one crate over the libraries below it, in a lane; gives whether it was proved, and what was said."""
     for other in libraries:
@@ -108,9 +149,7 @@ def prove(top, lane, name, libraries, jobs):
             link_tree(library(top, other), library(lane, other))
     command = "run" if name in PROGRAMS else "lib"
     # Without words a program tells how it is called and ends with 3, once it is proved and built.
-    ran = subprocess.run(
-        ["rt", command, "--jobs", str(jobs)], cwd=os.path.join(lane, "crates", name), stdout=subprocess.PIPE, stderr=subprocess.STDOUT, text=True, check=False
-    )
+    ran = call_kit([command, "--jobs", str(jobs)], os.path.join(lane, "crates", name))
     made = os.path.join(lane, "crates", name, "out")
     is_proved = os.access(os.path.join(made, name), os.X_OK) if name in PROGRAMS else ran.returncode == 0
     if is_proved:
@@ -152,21 +191,31 @@ def prove_all(top, needs, lanes):
     return True
 
 
+def clear(folder):
+    """Takes a folder of TOP/out away, and that one too where nothing else is left in it."""
+    shutil.rmtree(folder, ignore_errors=True)
+    with contextlib.suppress(OSError):
+        os.rmdir(os.path.dirname(folder))
+
+
 def main():
+    if len(sys.argv) != 2:
+        sys.exit(__doc__)
     top = os.path.abspath(sys.argv[1])
     needs = read_needs(top)
     wanted = set()
     for program in PROGRAMS:
         below(needs, program, wanted)
     needs = {name: needs[name] for name in wanted}
-    lanes = [os.path.join(top, "out", "lanes", str(number)) for number in range(side_by_side())]
+    lanes_folder = os.path.join(top, "out", "lanes")
+    lanes = [os.path.join(lanes_folder, str(number)) for number in range(side_by_side())]
     print(f"proving {len(needs)} crates, {len(lanes)} at a time", flush=True)
     try:
         for lane in lanes:
             open_lane(top, lane)
         return 0 if prove_all(top, needs, lanes) else 1
     finally:
-        shutil.rmtree(os.path.join(top, "out"), ignore_errors=True)
+        clear(lanes_folder)
 
 
 if __name__ == "__main__":

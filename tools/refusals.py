@@ -10,10 +10,10 @@ First a program is proved and built in TOP/out/refusals: refused_run.rattle besi
 SureHost. That host's calls never fail and take no memory, so each allocation of a run is the run's own. Its text isn't a .rt
 file, as the gate proves and builds what is one, which takes minutes.
 
-A case is a split of a made-up layout. It runs once for each allocation (in the case "crowded" for one of a hundred, in the case
-"large" for each of 65,536 bytes or more) with a library loaded before the C library, which counts these allocations and the
-threads that are asked for between the begin and the end of the run, and refuses one of them. Each run must end in one of these
-ways, and only the caller's thread is left then:
+A case is a split of a made-up layout. It runs once for each allocation (in the case "crowded" for one of 101, in the cases
+"large", "slices", "ladder" and "blocks" for each of 65,536 bytes or more) with a library loaded before the C library, which
+counts these allocations and the threads that are asked for between the begin and the end of the run, and refuses one of them.
+Each run must end in one of these ways, within two minutes, and only the caller's thread is left then:
   out of memory  status 6, and not a byte was written or said
   passed over    the status, and as many bytes written and said as without a refusal: the run does without what was refused
 For each case a line is printed with how many runs ended in which way. The script ends with 0 where all are right, else with 1
@@ -24,6 +24,7 @@ allocated before; and a thread."""
 import collections
 import concurrent.futures
 import os
+import re
 import shutil
 import subprocess
 import sys
@@ -34,6 +35,7 @@ import layouts
 import prove
 
 NO_MEMORY = 6
+MOST_SECONDS = 120
 NAME = "refused_run"
 # What it stands on.
 NEEDS = ["dpl_host", "dpl_pool", "dpl_run"]
@@ -189,42 +191,33 @@ CASES = {
     ),
 }
 
-# What a run leaves: its status, and how many bytes were written and said.
+# What a run leaves: its status, and how many bytes were written and said, or None where it doesn't tell.
 Left = collections.namedtuple("Left", "status taken")
 
 
-def build(top, lane):
-    """Proves and builds the program over the libraries of TOP; gives its path."""
-    needs = prove.read_needs(top)
-    if not os.path.isdir(prove.library(top, "dpl_run")):
-        sys.exit(f"crates/dpl_run isn't proved there: python3 tools/prove.py {top}")
-    prove.open_lane(top, lane)
-    for name in set().union(*(prove.below(needs, name, set()) for name in NEEDS)):
-        prove.link_tree(prove.library(top, name), prove.library(lane, name))
-    with open(os.path.join(lane, "crates.txt"), "a", encoding="utf-8") as file:
-        file.write(f"{NAME}: {' '.join(NEEDS)}\n")
-    folder = os.path.join(lane, "crates", NAME)
-    os.makedirs(os.path.join(folder, "src"))
-    shutil.copy(os.path.join(HERE, NAME + ".rattle"), os.path.join(folder, "src", "main.rt"))
-    # Without a file it ends with 99, once it is proved and built.
-    ran = subprocess.run(["rt", "run", "--jobs", "1"], cwd=folder, stdin=subprocess.DEVNULL, stdout=subprocess.PIPE, stderr=subprocess.STDOUT, text=True, check=False)
-    program = os.path.join(folder, "out", NAME)
-    if not os.access(program, os.X_OK):
-        sys.exit(f"{ran.stdout}\n{NAME} was not built")
-    return program
+def build(top, work):
+    """Builds the program over the libraries of TOP and the library that refuses; gives their paths."""
+    folder = prove.open_crate(top, os.path.join(work, "lane"), NAME, NEEDS, os.path.join(HERE, NAME + ".rattle"))
+    program = prove.build_crate(folder, NAME)
+    source, shim = os.path.join(work, "refuse.c"), os.path.join(work, "refuse.so")
+    with open(source, "w", encoding="utf-8") as file:
+        file.write(SHIM)
+    subprocess.run(["cc", "-O2", "-shared", "-fPIC", "-o", shim, source, "-ldl"], check=True)
+    return program, shim
 
 
 def run_once(words, shim, least, number, folder):
     """One run, of which this allocation is refused, 0 for none: what it leaves, how many it asked for, and how many threads are left."""
     env = {"LD_PRELOAD": shim, "LEAST": str(least), "REFUSED": str(number)}
-    ran = subprocess.run(words, cwd=folder, env=env, stdin=subprocess.DEVNULL, capture_output=True, timeout=120, check=False)
+    try:
+        ran = subprocess.run(words, cwd=folder, env=env, stdin=subprocess.DEVNULL, capture_output=True, timeout=MOST_SECONDS, check=False)
+    except subprocess.TimeoutExpired:
+        return Left(f"none in {MOST_SECONDS} seconds", None), 0, 0
+    taken, counts = re.fullmatch(rb"begins\nends\n(\d+)\n", ran.stdout), re.search(rb"(\d+) (\d+)\n\Z", ran.stderr)
     # A run that a signal ends tells nothing.
-    if ran.returncode < 0:
+    if not taken or not counts:
         return Left(ran.returncode, None), 0, 0
-    asked, threads = map(int, ran.stderr.split()[-2:])
-    begins, ends, taken = ran.stdout.split()
-    assert (begins, ends) == (b"begins", b"ends"), ran.stdout
-    return Left(ran.returncode, int(taken)), asked, threads
+    return Left(ran.returncode, int(taken[1])), int(counts[1]), int(counts[2])
 
 
 def way_of(left, plain):
@@ -239,13 +232,13 @@ def look_at(case, program, shim, work):
     rects, options, least, step = CASES[case]
     folder = os.path.join(work, case)
     os.mkdir(folder)
-    with open(os.path.join(folder, "in"), "wb") as file:
-        parts = layouts.structure("TOP", (layouts.rect(*rect) for rect in rects))
-        file.write(layouts.FRONT + b"".join(parts) + layouts.BACK)
+    layouts.write(os.path.join(folder, "in"), layouts.structure("TOP", (layouts.rect(*rect) for rect in rects)))
     words = [program, *f"split --layer 1 --rule 30 --overlap 10 {options} in out cert".split()]
     plain, total, threads = run_once(words, shim, least, 0, folder)
-    numbers = range(1, total + 1, step)
-    ways, wrong = collections.Counter(), 0 if threads == 1 else 1
+    if plain.taken is None or threads != 1:
+        print(f"{case}: without a refusal it leaves {plain} and {threads} threads", flush=True)
+        return False
+    numbers, ways, wrong = range(1, total + 1, step), collections.Counter(), 0
     with concurrent.futures.ThreadPoolExecutor(len(os.sched_getaffinity(0))) as pool:
         for number, (left, _, threads) in zip(numbers, pool.map(lambda number: run_once(words, shim, least, number, folder), numbers)):
             way = way_of(left, plain) if threads == 1 else None
@@ -260,17 +253,18 @@ def look_at(case, program, shim, work):
 
 
 def main():
+    if len(sys.argv) < 2 or not set(sys.argv[2:]) <= set(CASES):
+        sys.exit(f"{__doc__}\n\nThe cases: {' '.join(CASES)}")
     top, cases = os.path.abspath(sys.argv[1]), sys.argv[2:] or list(CASES)
     work = os.path.join(top, "out", "refusals")
     shutil.rmtree(work, ignore_errors=True)
-    program = build(top, os.path.join(work, "lane"))
-    source, shim = os.path.join(work, "refuse.c"), os.path.join(work, "refuse.so")
-    with open(source, "w", encoding="utf-8") as file:
-        file.write(SHIM)
-    subprocess.run(["cc", "-O2", "-shared", "-fPIC", "-o", shim, source, "-ldl"], check=True)
-    is_right = all([look_at(case, program, shim, work) for case in cases])
-    shutil.rmtree(work)
-    return 0 if is_right else 1
+    os.makedirs(work)
+    try:
+        program, shim = build(top, work)
+        return 0 if all([look_at(case, program, shim, work) for case in cases]) else 1
+    finally:
+        # What lies below TOP may have no crates.txt of its own.
+        prove.clear(work)
 
 
 if __name__ == "__main__":
