@@ -1,6 +1,7 @@
 -- What sorts leave, of spans and by a signed key.
-use Rattle.std.proofs.Common.{◌≡◌, ℕ, ◌<◌, ◌≤◌, List, length, get_or, false, Ordering, refl, arith}
+use Rattle.std.proofs.Common.{◌≡◌, ℕ, ◌<◌, ◌≤◌, List, length, get_or, true, false, Result, Ok, Err, Ordering, refl, arith}
 use Rattle.std.specs.Prelude.{ℤ, ◌≤ℤ◌, ◌<ℤ◌, ◌↔◌}
+use Rattle.std.specs.Result.{OnOk, is_ok}
 use Rattle.std.specs.Ordering.{is_lt, int_cmp}
 use Rattle.std.specs.declared.cmp.Ordering.TheVariants.{Less, Equal, Greater}
 use Rattle.std.specs.List.Sorted.{IsPermutation, IsSortedByKey}
@@ -32,3 +33,8 @@ pub rise-from_sorted : {X : Type 0} (key : X → ℤ) (xs : List X) → IsSorted
 rise-from_sorted key xs h i j d l within =
     at_most (key (get_or xs j d)) (key (get_or xs i d)) (int_cmp (key (get_or xs j d)) (key (get_or xs i d))) refl
     (sorted_far (λ a b. is_lt (int_cmp (key a) (key b))) (ranks_by int_cmp_total key) xs h i j d l within)
+
+-- what is said of a call that didn't fail
+pub ok-said : {X E P : Type 0} (r : Result X E) → is_ok r ≡ true → OnOk r P → P
+ok-said (Ok x) e said = said
+ok-said (Err f) e said = absurd cc

@@ -241,20 +241,36 @@ module _ (items : List Item) (t : Shades) (less : t.spacing.corner ≤ t.spacing
     λ (s, c, number, r). subst (λ (k : ℕ). IsDarkRow t.spacing items k y) number ((sound.shades s c).rows y r),
   )
 
--- sorting leaves them the same
-pub shades-sorted : (items : List Item) (old new : Shades) → new.spacing ≡ old.spacing → new.overlap ≡ old.overlap → new.dead.items ≡ old.dead.items
-    → IsPermutation old.found.items new.found.items → NumbersRise new.found.items
-    → old.spacing.corner ≤ old.spacing.rule → IsSound items old → ((p : ℕ × ℕ) → IsPair old.spacing.rule items p → HandlesBoth items old p) → AreShades items new
-shades-sorted items old new spacing overlap dead same rise less sound handles =
-    let found : (s : Shade) → Contains old.found.items s ↔ Contains new.found.items s =
-    λ s. (Contains-permutation old.found.items new.found.items s same, Contains-permutation new.found.items old.found.items s (IsPermutation-sym old.found.items new.found.items same)) in
-    record {
-      sound = rw (spacing, overlap, dead) (record { sized = sound.sized; shades = λ s c. sound.shades s ((found s).1 c); dead = sound.dead });
-      rise = rise;
-      rows = λ n y n_in alive row.
-          let h = dark-rows items old less handles sound n y n_in (λ d. alive (rw dead d)) row in
-          rw spacing ((λ dark. let (s, c, number, r) = h.0 dark in (s, (found s).0 c, number, r)), (λ (s, c, number, r). h.1 (s, (found s).1 c, number, r)));
-    }
+-- ---- the same shades in another order
+
+module _ (items : List Item) (old new : Shades) (spacing : new.spacing ≡ old.spacing) (overlap : new.overlap ≡ old.overlap)
+    (dead : new.dead.items ≡ old.dead.items) (same : IsPermutation old.found.items new.found.items) where
+  both-found : (s : Shade) → Contains old.found.items s ↔ Contains new.found.items s
+  both-found s = (Contains-permutation old.found.items new.found.items s same, Contains-permutation new.found.items old.found.items s (IsPermutation-sym old.found.items new.found.items same))
+
+  pub sound-sorted : IsSound items old → IsSound items new
+  sound-sorted sound = rw (spacing, overlap, dead) (record { sized = sound.sized; shades = λ s c. sound.shades s ((both-found s).1 c); dead = sound.dead })
+
+  handles-sorted : (n m : ℕ) → Handles items old n m → Handles items new n m
+  handles-sorted n m h =
+      elim h [
+        | inl gone ↦ inl (rw dead gone)
+        | inr lit ↦ inr (rw spacing (λ y row shaded. let (s, c, number, r) = lit y row shaded in (s, (both-found s).0 c, number, r)))
+      ]
+
+  pub both-sorted : (p : ℕ × ℕ) → HandlesBoth items old p → HandlesBoth items new p
+  both-sorted p h = (handles-sorted p.0 p.1 h.0, handles-sorted p.1 p.0 h.1)
+
+  pub shades-sorted : NumbersRise new.found.items → old.spacing.corner ≤ old.spacing.rule → IsSound items old
+      → ((p : ℕ × ℕ) → IsPair old.spacing.rule items p → HandlesBoth items old p) → AreShades items new
+  shades-sorted rise less sound handles =
+      record {
+        sound = sound-sorted sound;
+        rise = rise;
+        rows = λ n y n_in alive row.
+            let h = dark-rows items old less handles sound n y n_in (λ d. alive (rw dead d)) row in
+            rw spacing ((λ dark. let (s, c, number, r) = h.0 dark in (s, (both-found s).0 c, number, r)), (λ (s, c, number, r). h.1 (s, (both-found s).1 c, number, r)));
+      }
 
 -- ---- the shades of one item
 

@@ -4,7 +4,7 @@ ghost use Rattle.dpl_join.specs.Pairs.{IsPair};
 ghost use Rattle.dpl_shade.specs.Items.{AreOwnedWithin};
 ghost use Rattle.dpl_shade.specs.Shading.{AreBoth, HandlesBoth, HandlesDealt, IsMore, IsShare, IsSound};
 
-use crate::shades::{Shades, add_pairs};
+use crate::shades::{Shades, add_pairs, sort_by_number};
 use dpl_join::Join;
 use std::alloc::{AllocError, Global};
 use std::thread::{Threads, map_indices};
@@ -59,6 +59,7 @@ fn dealt_shades(
         dead: Vec::from_slice(alloc, &known.dead)?,
     };
     add_dealt(&mut shades, alloc, join, worker, workers)?;
+    sort_by_number(&mut shades.found);
     Ok(shades)
 }
 

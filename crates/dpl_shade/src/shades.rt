@@ -249,11 +249,21 @@ fn unsorted_shades_by<R: Threads + Sync>(
 }
 
 /// Sorts by number.
-fn sort_by_number(found: &mut Vec<Shade>)
+pub(crate) fn sort_by_number(found: &mut Vec<Shade>)
     ensures same { IsPermutation found.old.items found.new.items }
     ensures rise { NumbersRise found.new.items }
 {
     sort_by_key(found, |s| s.number);
+}
+
+/// Sorts by number shades of which parts, one behind the other, are in order: std's stable sort finds such parts and merges them. Where it gets no memory for that, all are sorted in place.
+fn merge_by_number(found: &mut Vec<Shade>)
+    ensures same { IsPermutation found.old.items found.new.items }
+    ensures rise { NumbersRise found.new.items }
+{
+    if found.sort_by_key(|s| s.number).is_err() {
+        sort_by_number(found);
+    }
 }
 
 /// The shades of the items of a join, those of one item behind one another, by number. Spacing and overlap are in database units. The error: out of memory.
@@ -296,7 +306,7 @@ pub fn shades_by<R: Threads + Sync>(
         return shades_of(alloc, join, spacing, overlap);
     }
     let mut shades = unsorted_shades_by(rt, alloc, join, spacing, overlap, workers)?;
-    sort_by_number(&mut shades.found);
+    merge_by_number(&mut shades.found);
     Ok(shades)
 }
 

@@ -1,5 +1,5 @@
 use Rattle.std.proofs.Common.{arith, refl, w64}
-use Rattle.std.specs.Prelude.{◌≤ℤ◌, ◌<ℤ◌}
+use Rattle.std.specs.Prelude.{◌<ℤ◌}
 use Rattle.std.proofs.lemmas.Int.{ints, to_z-of_z}
 use Rattle.dpl_shade.proofs.GapLaws.{span-added, span-none}
 use Rattle.std.proofs.lemmas.Result.{IfOk-from_err}
