@@ -26,7 +26,8 @@ use Rattle.dpl_piece.specs.declared.matched.Cut.{Cut}
 use Rattle.dpl_piece.specs.declared.piece.Whole.{Whole}
 use Rattle.dpl_piece.specs.Wholes.{AreOwnSides, HasWhole, IsZoneIn, LieIn}
 use Rattle.dpl_piece.proofs.CornerLaws.{zip-at, zip-length}
-use Rattle.dpl_piece.proofs.WholeLaws.{feature-one, part-known}
+use Rattle.dpl_piece.proofs.Beside.{part-known}
+use Rattle.dpl_piece.proofs.WholeLaws.{feature-one}
 use Rattle.dpl_orient.specs.declared.mask.Mask.{Mask as Letter}
 use Rattle.dpl_orient.specs.Masks.{is_second}
 use Rattle.dpl_masks.specs.declared.ink.Ink.{Ink}

@@ -1,8 +1,9 @@
 -- What the zones leave of a layer goes on beside each of them.
-use Rattle.std.proofs.Common.{◌≡◌, ℕ, ◌<◌, ◌⊎◌, inl, inr, List, [], length, get_or, sym, ◌∙◌, subst}
+use Rattle.std.proofs.Common.{◌≡◌, ℕ, ◌<◌, ◌⊎◌, inl, inr, List, [], length, get_or, sym, ◌∙◌, subst, arith}
 use Rattle.std.specs.Prelude.{ℤ, pos, ◌+ℤ◌, ◌≤ℤ◌, ◌<ℤ◌}
 use Rattle.std.specs.List.{Contains}
-use Rattle.std.proofs.lemmas.List.{get_or_default}
+use Rattle.std.proofs.lemmas.Bool.{cases_lt}
+use Rattle.std.proofs.lemmas.List.{get_or_default, get_or_past}
 use Rattle.dpl_spec_split.specs.declared.Spacing.{Spacing}
 use Rattle.dpl_spec_split.specs.declared.Pt.{Pt}
 use Rattle.dpl_spec_split.specs.declared.Rect.{Rect}
@@ -16,6 +17,16 @@ use Rattle.dpl_spec_split.proofs.ComponentLaws.{Linked-trans}
 use Rattle.dpl_spec_split.proofs.ZoneLaws.{zone-in-feature, beside-in-feature, beside-same}
 use Rattle.dpl_spec_split.proofs.WholeLaws.{part-unique}
 use Rattle.dpl_piece.proofs.Steps.{beside-from, beside-to, next-one, next-to, not-beside}
+
+covers-none : (p : Pt) → Covers [] p → ⊥
+covers-none p (k, r, k_in, is, has) = omega (arith, k_in)
+
+-- a part with a square is one of the parts
+pub part-known : (parts : List (List Rect)) (k : ℕ) (p : Pt) → part_at parts k p → k < length parts
+part-known parts k p has = elim (cases_lt k (length parts)) [
+  | inl l ↦ l
+  | inr past ↦ absurd (covers-none p (subst (λ s. Covers s p) (get_or_past parts k [] past) has))
+]
 
 -- a square of some part is one of the set
 pub in-set : (a : Region) (parts : List (List Rect)) (k : ℕ) (p : Pt) → AreComponents a parts → k < length parts → part_at parts k p → a p

@@ -1,8 +1,7 @@
 -- The pieces of one feature are components of what the zones leave of all.
-use Rattle.std.proofs.Common.{◌≡◌, ℕ, ◌+◌, ◌<◌, inl, inr, List, [], ◌∷◌, ◌++◌, zero, suc, length, get_or, map, refl, sym, ◌∙◌, subst, arith}
+use Rattle.std.proofs.Common.{◌≡◌, ℕ, ◌<◌, ◌⊎◌, inl, inr, List, [], ◌∷◌, ◌++◌, zero, suc, length, get_or, map, refl, sym, ◌∙◌, subst, arith}
 use Rattle.std.specs.Prelude.{pos}
 use Rattle.std.specs.List.{All, AllPairs, Any, Contains}
-use Rattle.std.proofs.lemmas.Bool.{cases_eq}
 use Rattle.std.proofs.lemmas.List.{get_or_default, get_or-map, length-map}
 use Rattle.std.proofs.lemmas.List.Elements.{All-append, All-contains, Contains-get_or, Contains-append_left, Contains-append_right}
 use Rattle.dpl_spec_split.specs.declared.Spacing.{Spacing}
@@ -10,11 +9,11 @@ use Rattle.dpl_spec_split.specs.declared.Pt.{Pt}
 use Rattle.dpl_spec_split.specs.declared.Rect.{Rect}
 use Rattle.dpl_spec_split.specs.declared.Zone.{Zone}
 use Rattle.dpl_spec_split.specs.Squares.{Region, Covers, Has, SameSquares}
-use Rattle.dpl_spec_split.specs.Slabs.{IsCanonical}
 use Rattle.dpl_spec_split.specs.Loops.{farthest, AreRectsWithin}
 use Rattle.dpl_spec_split.specs.Components.{Linked, here, on, component, AreComponents}
 use Rattle.dpl_spec_split.specs.Zones.{AreSomeZones, part_at}
 use Rattle.dpl_spec_split.specs.Pieces.{without}
+use Rattle.dpl_spec_split.proofs.Ordered.{Contains-nil}
 use Rattle.dpl_spec_split.proofs.SlabLaws.{Covers-member, member-Covers}
 use Rattle.dpl_spec_split.proofs.SquareLaws.{Touch-sym, SameSquares-trans}
 use Rattle.dpl_spec_split.proofs.ComponentLaws.{Linked-start}
@@ -25,26 +24,10 @@ use Rattle.dpl_sides.specs.declared.piece.Origin.TheVariants.{Whole, Broken}
 use Rattle.dpl_sides.specs.declared.piece.Piece.{Piece}
 use Rattle.dpl_sides.specs.Pieces.{whole_piece}
 use Rattle.dpl_piece.specs.Pieces.{broken_piece, left_of, AddsPieces, AreHolesOf, HasZone}
-use Rattle.dpl_piece.proofs.Beside.{in-set, some-part, closed, kept, kept-inside}
+use Rattle.dpl_piece.specs.Share.{ArePiecesOf, IsPieceOf}
+use Rattle.dpl_piece.proofs.Beside.{in-set, some-part, closed, kept, kept-inside, part-known}
 use Rattle.dpl_piece.proofs.Regions.{linked-same}
 use Rattle.dpl_piece.proofs.Stands.{AreLeftOf}
-
--- canonical slabs within the range of a layer, which are one of the components of what the zones leave of all features and lie in one of
--- the first n: a whole feature as it is, or broken off one with a zone
-pub record IsPieceBelow (features : List (List Rect)) (zones : List Zone) (n : ℕ) (x : Piece) : Type 0 where
-  pub owner : x.owner < n
-  pub inside : (p : Pt) → Covers x.part p → part_at features x.owner p
-  pub canonical : IsCanonical x.part
-  pub within : AreRectsWithin farthest x.part
-  pub whole : let left = without (union_of features) zones in (p : Pt) × left p × SameSquares (Covers x.part) (component left p)
-  pub kept : x.origin ≡ Whole → get_or features x.owner [] ≡ x.part
-  pub cut : x.origin ≡ Broken → HasZone zones x.owner
-
--- all that the zones leave of the first n features, in pieces that share no square
-pub record ArePiecesBelow (features : List (List Rect)) (zones : List Zone) (n : ℕ) (pieces : List Piece) : Type 0 where
-  pub each : All (IsPieceBelow features zones n) pieces
-  pub all : (k : ℕ) (p : Pt) → k < n → part_at features k p → ¬ Any (λ z. Has z.rect p) zones → Any (λ x. Covers x.part p) pieces
-  pub apart : AllPairs (λ x y. AreApart x.part y.part) pieces
 
 pub any-in : {X : Type 0} (P : X → Type 0) (xs : List X) (x : X) → Contains xs x → P x → Any P xs
 any-in P xs x (k, k_in, is) h = (k, x, k_in, is, h)
@@ -52,12 +35,38 @@ any-in P xs x (k, k_in, is) h = (k, x, k_in, is, h)
 pub in-any : {X : Type 0} (P : X → Type 0) (xs : List X) → Any P xs → (x : X) × Contains xs x × P x
 in-any P xs (k, x, k_in, is, h) = (x, (k, k_in, is), h)
 
-pub pieces-none : (features : List (List Rect)) (zones : List Zone) → ArePiecesBelow features zones 0 []
+pub pieces-none : (features : List (List Rect)) (zones : List Zone) → ArePiecesOf features zones (Contains []) []
 pieces-none features zones = record {
   each = λ k d k_in. absurd (omega (arith, k_in));
-  all = λ k p l. absurd (omega (arith, l));
+  all = λ k p listed. absurd (Contains-nil k listed);
   apart = λ i j d l j_in. absurd (omega (arith, j_in));
 }
+
+-- the same share of the features said otherwise
+module _ (features : List (List Rect)) (zones : List Zone) (Share Other : ℕ → Type 0) (to : (k : ℕ) → Share k → Other k) where
+  further : (x : Piece) → IsPieceOf features zones Share x → IsPieceOf features zones Other x
+  further x is = record {
+    owner = to x.owner is.owner;
+    inside = is.inside;
+    canonical = is.canonical;
+    within = is.within;
+    whole = is.whole;
+    kept = is.kept;
+    cut = is.cut;
+  }
+
+  pub each-further : (pieces : List Piece) → All (IsPieceOf features zones Share) pieces → All (IsPieceOf features zones Other) pieces
+  each-further pieces each k d k_in = further (get_or pieces k d) (each k d k_in)
+
+  pub pieces-same : ((k : ℕ) → Other k → Share k) → (pieces : List Piece) → ArePiecesOf features zones Share pieces → ArePiecesOf features zones Other pieces
+  pieces-same back pieces h = record { each = each-further pieces h.each; all = λ k p other. h.all k p (back k other); apart = h.apart }
+
+-- the share of one feature, and of two shares
+abbrev pub IsFeature : ℕ → ℕ → Type 0
+IsFeature n k = k ≡ n
+
+abbrev pub Either : (ℕ → Type 0) → (ℕ → Type 0) → ℕ → Type 0
+Either Share Other k = Share k ⊎ Other k
 
 module _ (spacing : Spacing) (overlap : ℕ) (features : List (List Rect)) (zones : List Zone) (c : AreComponents (union_of features) features)
     (zs : AreSomeZones spacing overlap (union_of features) features zones) where
@@ -109,12 +118,12 @@ module _ (spacing : Spacing) (overlap : ℕ) (features : List (List Rect)) (zone
       clear {p = p} (on {q = r} h touch l) in_n =
           on (free p in_n) touch (clear l (closed (union_of features) features n r p c n_in (Linked-start (union_of features) l) in_n (Touch-sym p r touch)))
 
-      whole-is : AreRectsWithin farthest (get_or features n []) → IsPieceBelow features zones (n + 1) (whole_piece n (get_or features n []))
+      whole-is : AreRectsWithin farthest (get_or features n []) → IsPieceOf features zones (IsFeature n) (whole_piece n (get_or features n []))
       whole-is within =
           let (p, in_u, squares) = c.whole n [] n_in in
           let in_n : part_at features n p = (squares p).1 (here in_u) in
           record {
-            owner = omega arith;
+            owner = refl;
             inside = λ q in_q. in_q;
             canonical = c.canonical n [] n_in;
             within = within;
@@ -130,11 +139,11 @@ module _ (spacing : Spacing) (overlap : ℕ) (features : List (List Rect)) (zone
         nothing = record { x0 = pos 0; y0 = pos 0; x1 = pos 0; y1 = pos 0 }
 
     module _ (parts : List (List Rect)) (some : 0 < length holes) (b : AreComponents mine parts) (apart : AreParts parts) where
-      broken-is : (j : ℕ) → j < length parts → IsPieceBelow features zones (n + 1) (broken_piece n (get_or parts j []))
+      broken-is : (j : ℕ) → j < length parts → IsPieceOf features zones (IsFeature n) (broken_piece n (get_or parts j []))
       broken-is j j_in =
           let (p, in_m, squares) = b.whole j [] j_in in
           record {
-            owner = omega arith;
+            owner = refl;
             inside = λ q in_q. (in-set mine parts j q b j_in in_q).0;
             canonical = b.canonical j [] j_in;
             within = apart.within j [] j_in;
@@ -155,7 +164,7 @@ module _ (spacing : Spacing) (overlap : ℕ) (features : List (List Rect)) (zone
       broken-at : (j : ℕ) (d : Piece) → j < length (map (broken_piece n) parts) → get_or (map (broken_piece n) parts) j d ≡ broken_piece n (get_or parts j [])
       broken-at j d j_in = get_or-map (broken_piece n) parts j [] d (subst (λ m. j < m) (length-map parts (broken_piece n)) j_in)
 
-      broken-each : All (IsPieceBelow features zones (n + 1)) (map (broken_piece n) parts)
+      broken-each : All (IsPieceOf features zones (IsFeature n)) (map (broken_piece n) parts)
       broken-each j d j_in = rw (broken-at j d j_in) (broken-is j (subst (λ m. j < m) (length-map parts (broken_piece n)) j_in))
 
       broken-apart : AllPairs (λ x y. AreApart x.part y.part) (map (broken_piece n) parts)
@@ -170,52 +179,59 @@ module _ (spacing : Spacing) (overlap : ℕ) (features : List (List Rect)) (zone
           let covers : Covers (get_or parts j []) p = subst (λ s. Covers s p) (sym is ∙ get_or_default parts j part [] j_in) has in
           (j, broken_piece n (get_or parts j []), k_in, broken-at j (broken_piece n (get_or parts j [])) k_in, covers)
 
-    -- pieces of the first n features, and those of one more
-    module _ (pieces more : List Piece) (h : ArePiecesBelow features zones n pieces)
-        (each : All (IsPieceBelow features zones (n + 1)) more) (owned : All (λ x. x.owner ≡ n) more) (all : (p : Pt) → part_at features n p
-        → ¬ Any (λ z. Has z.rect p) zones → Any (λ x. Covers x.part p) more) (apart : AllPairs (λ x y. AreApart x.part y.part) more) where
-      further : (x : Piece) → IsPieceBelow features zones n x → IsPieceBelow features zones (n + 1) x
-      further x is = record { owner = omega (arith, is.owner); inside = is.inside; canonical = is.canonical; within = is.within; whole = is.whole; kept = is.kept; cut = is.cut }
-
-      across : (x y : Piece) → Contains pieces x → Contains more y → AreApart x.part y.part
-      across x y x_in y_in p in_x in_y =
-          let is : IsPieceBelow features zones n x = All-contains (IsPieceBelow features zones n) pieces x h.each x_in in
-          let so : IsPieceBelow features zones (n + 1) y = All-contains (IsPieceBelow features zones (n + 1)) more y each y_in in
-          let at : y.owner ≡ n = All-contains (λ x. x.owner ≡ n) more y owned y_in in
-          let in_n : part_at features n p = subst (λ k. part_at features k p) at (so.inside p in_y) in
-          let same : x.owner ≡ n = part-unique (union_of features) features x.owner n p c (omega (arith, is.owner, n_in)) n_in (is.inside p in_x) in_n in
-          omega (arith, same, is.owner)
-
-      covered : (k : ℕ) (p : Pt) → k < n + 1 → part_at features k p → ¬ Any (λ z. Has z.rect p) zones → Any (λ x. Covers x.part p) (pieces ++ more)
-      covered k p l in_k none = elim (cases_eq k n) [
-        | inl e ↦ (let (x, x_in, has) = in-any (λ x. Covers x.part p) more (all p (subst (λ m. part_at features m p) e in_k) none) in
-            any-in (λ x. Covers x.part p) (pieces ++ more) x (Contains-append_right pieces more x x_in) has)
-        | inr ne ↦ (let (x, x_in, has) = in-any (λ x. Covers x.part p) pieces (h.all k p (omega (arith, l, ne)) in_k none) in
-            any-in (λ x. Covers x.part p) (pieces ++ more) x (Contains-append_left pieces more x x_in) has)
-      ]
-
-      more-pieces : ArePiecesBelow features zones (n + 1) (pieces ++ more)
-      more-pieces = record {
-        each = All-append (IsPieceBelow features zones (n + 1)) pieces more (λ k d k_in. further (get_or pieces k d) (h.each k d k_in)) each;
-        all = covered;
-        apart = AllPairs-append (λ x y. AreApart x.part y.part) pieces more h.apart apart across;
-      }
-
-    pub pieces-next : (pieces new : List Piece) → ArePiecesBelow features zones n pieces → AreRectsWithin farthest (get_or features n [])
-        → AddsPieces (get_or features n []) holes n pieces new → ArePiecesBelow features zones (n + 1) new
-    pieces-next pieces new h within (inl (none, new_is)) =
-        let is : IsPieceBelow features zones (n + 1) (whole_piece n (get_or features n [])) = whole-is none within in
-        rw new_is
-        (more-pieces pieces (whole_piece n (get_or features n []) ∷ []) h (single (IsPieceBelow features zones (n + 1)) is) (single (λ x. x.owner ≡ n) refl)
-        (λ p in_n free_of. (0, whole_piece n (get_or features n []), omega arith, refl, in_n))
-        (λ i j d l j_in. absurd (omega (arith, l, j_in))))
+    -- the pieces that are added are those of the feature
+    pub pieces-added : (pieces new : List Piece) → AreRectsWithin farthest (get_or features n []) → AddsPieces (get_or features n []) holes n pieces new
+        → (more : List Piece) × ArePiecesOf features zones (IsFeature n) more × (new ≡ pieces ++ more)
+    pieces-added pieces new within (inl (none, new_is)) =
+        let x : Piece = whole_piece n (get_or features n []) in
+        let is : IsPieceOf features zones (IsFeature n) x = whole-is none within in (
+          x ∷ [],
+          record {
+            each = single (IsPieceOf features zones (IsFeature n)) is;
+            all = λ k p e in_k free_of. (0, x, omega arith, refl, subst (λ m. part_at features m p) e in_k);
+            apart = λ i j d l j_in. absurd (omega (arith, l, j_in));
+          },
+          new_is,
+        )
       where
         single : (P : Piece → Type 0) {x : Piece} → P x → All P (x ∷ [])
         single P {x} is zero d k_in = is
         single P {x} is (suc k) d k_in = absurd (omega (arith, k_in))
-    pieces-next pieces new h within (inr (some, b)) =
-        rw b.added
-        (more-pieces pieces (map (broken_piece n) b.parts) h (broken-each b.parts some b.broken.components b.broken.apart)
-        (λ k d k_in. rw (broken-at b.parts some b.broken.components b.broken.apart k d k_in) refl)
-        (broken-all b.parts some b.broken.components b.broken.apart)
-        (broken-apart b.parts some b.broken.components b.broken.apart))
+    pieces-added pieces new within (inr (some, b)) =
+        let components = b.broken.components in
+        let apart = b.broken.apart in (
+          map (broken_piece n) b.parts,
+          record {
+            each = broken-each b.parts some components apart;
+            all = λ k p e in_k free_of. broken-all b.parts some components apart p (subst (λ m. part_at features m p) e in_k) free_of;
+            apart = broken-apart b.parts some components apart;
+          },
+          b.added,
+        )
+
+  -- the pieces of two shares of the features that have none in common
+  module _ (Share Other : ℕ → Type 0) (differ : (k : ℕ) → Share k → Other k → ⊥) (pieces more : List Piece)
+      (h : ArePiecesOf features zones Share pieces) (m : ArePiecesOf features zones Other more) where
+    across : (x y : Piece) → Contains pieces x → Contains more y → AreApart x.part y.part
+    across x y x_in y_in p in_x in_y =
+        let is : IsPieceOf features zones Share x = All-contains (IsPieceOf features zones Share) pieces x h.each x_in in
+        let so : IsPieceOf features zones Other y = All-contains (IsPieceOf features zones Other) more y m.each y_in in
+        let at_x : part_at features x.owner p = is.inside p in_x in
+        let at_y : part_at features y.owner p = so.inside p in_y in
+        let same : x.owner ≡ y.owner = part-unique (union_of features) features x.owner y.owner p c (part-known features x.owner p at_x) (part-known features y.owner p at_y) at_x at_y in
+        differ y.owner (subst Share same is.owner) so.owner
+
+    covered : (k : ℕ) (p : Pt) → Share k ⊎ Other k → part_at features k p → ¬ Any (λ z. Has z.rect p) zones → Any (λ x. Covers x.part p) (pieces ++ more)
+    covered k p (inl s) in_k none = (let (x, x_in, has) = in-any (λ x. Covers x.part p) pieces (h.all k p s in_k none) in
+        any-in (λ x. Covers x.part p) (pieces ++ more) x (Contains-append_left pieces more x x_in) has)
+    covered k p (inr o) in_k none = (let (x, x_in, has) = in-any (λ x. Covers x.part p) more (m.all k p o in_k none) in
+        any-in (λ x. Covers x.part p) (pieces ++ more) x (Contains-append_right pieces more x x_in) has)
+
+    pub pieces-both : ArePiecesOf features zones (Either Share Other) (pieces ++ more)
+    pieces-both = record {
+      each = All-append (IsPieceOf features zones (Either Share Other)) pieces more
+          (each-further features zones Share (Either Share Other) (λ k s. inl s) pieces h.each)
+          (each-further features zones Other (Either Share Other) (λ k o. inr o) more m.each);
+      all = covered;
+      apart = AllPairs-append (λ x y. AreApart x.part y.part) pieces more h.apart m.apart across;
+    }

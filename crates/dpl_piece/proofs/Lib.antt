@@ -8,10 +8,10 @@ pub mod Broken
 pub mod Sorted
 pub mod Turns
 pub mod Sides
-pub mod Moved
 pub mod Cuts
 pub mod WholeLaws
 pub mod Ranks
-pub mod Piles
 pub mod MadeLaws
+pub mod Piles
+pub mod Adding
 pub mod Bars

@@ -14,18 +14,19 @@ use Rattle.dpl_sides.specs.Corners.{corner_at, IsCornerOf, StandBeside}
 use Rattle.dpl_sides.specs.Noted.{piece_at, AreNumbered, IsPlaced, IsSortedWith}
 use Rattle.dpl_sides.specs.Pieces.{parts_in, whole_piece, zone_at}
 use Rattle.dpl_piece.specs.Pieces.{feature_at}
-use Rattle.dpl_piece.proofs.Broken.{any-in, ArePiecesBelow}
+use Rattle.dpl_piece.specs.Share.{ArePiecesOf, AreSidesOfShare}
+use Rattle.dpl_piece.proofs.Broken.{any-in}
 use Rattle.dpl_sides.proofs.CornerLaws.{number-is, renumber}
 use Rattle.dpl_piece.proofs.CornerLaws.{corner-known, zip-from}
-use Rattle.dpl_piece.proofs.Sides.{AreSidedBelow}
+use Rattle.dpl_piece.proofs.Sides.{IsBelow}
 
-module _ (features : List (List Rect)) (zones : List Zone) (n : ℕ) (old new : List Piece) (are : AreNumbered old new) (h : ArePiecesBelow features zones n old) where
+module _ (features : List (List Rect)) (zones : List Zone) (Share : ℕ → Type 0) (old new : List Piece) (are : AreNumbered old new) (h : ArePiecesOf features zones Share old) where
   at-new : (k : ℕ) (d : Piece) → k < length new → get_or new k d ≡ record { part = (piece_at old k).part; owner = (piece_at old k).owner; origin = (piece_at old k).origin; number = k }
   at-new k d k_in = get_or_default new k d (whole_piece 0 []) k_in ∙ are.same k (omega (arith, k_in, are.each))
 
   -- they are the same pieces
-  pub numbered-below : ArePiecesBelow features zones n new
-  numbered-below = record {
+  pub numbered : ArePiecesOf features zones Share new
+  numbered = record {
     each = λ k d k_in. (let is = h.each k (whole_piece 0 []) (omega (arith, k_in, are.each)) in
         rw (at-new k d k_in) (record { owner = is.owner; inside = is.inside; canonical = is.canonical; within = is.within; whole = is.whole; kept = is.kept; cut = is.cut }));
     all = λ k p l in_k none. (let (i, x, i_in, is, has) = h.all k p l in_k none in
@@ -54,7 +55,7 @@ placed-corner kind old new x y a b (b_in, same) (i, r, i_in, r_in, is) =
     )
 
 -- the numbers that are noted are those of pieces
-module _ (zones : List Zone) (n : ℕ) (pieces : List Piece) (firsts seconds : List ℕ) (h : AreSidedBelow zones n (parts_in pieces) firsts seconds)
+module _ (zones : List Zone) (n : ℕ) (pieces : List Piece) (firsts seconds : List ℕ) (h : AreSidesOfShare zones (IsBelow n) (parts_in pieces) firsts seconds)
     (below : All (λ z. let u : Zone = z in u.feature < n) zones) where
   in-pieces : (k : ℕ) → k < length (parts_in pieces) → k < length pieces
   in-pieces k l = subst (λ m. k < m) (length-map pieces (λ x. let u : Piece = x in u.part)) l
@@ -81,7 +82,7 @@ module _ (zones : List Zone) (n : ℕ) (pieces : List Piece) (firsts seconds : L
 
 -- the sorted pieces beside each zone
 pub sorted-sides : (zones : List Zone) (n : ℕ) (old new : List Piece) (firsts seconds : List ℕ) (sides : List (ℕ × ℕ))
-    → AreSidedBelow zones n (parts_in old) firsts seconds → All (λ z. let u : Zone = z in u.feature < n) zones → IsSortedWith old new firsts seconds sides
+    → AreSidesOfShare zones (IsBelow n) (parts_in old) firsts seconds → All (λ z. let u : Zone = z in u.feature < n) zones → IsSortedWith old new firsts seconds sides
     → AllZip (StandBeside (parts_in new)) zones sides
 sorted-sides zones n old new firsts seconds sides h below s =
     zip-from (StandBeside (parts_in new)) zones sides (sym (s.each ∙ h.firsts-each)) (λ j z e j_in. (

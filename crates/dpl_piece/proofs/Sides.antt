@@ -1,5 +1,5 @@
 -- The pieces on the two sides of each zone.
-use Rattle.std.proofs.Common.{◌≡◌, ℕ, ◌≤◌, ◌<◌, ◌+◌, inl, inr, List, [], ◌∷◌, ◌++◌, length, get_or, map, refl, sym, ap, ◌∙◌, subst, arith}
+use Rattle.std.proofs.Common.{◌≡◌, ◌≢◌, ℕ, ◌≤◌, ◌<◌, ◌+◌, inl, inr, List, [], ◌∷◌, ◌++◌, length, get_or, map, refl, sym, ap, ◌∙◌, subst, arith}
 use Rattle.std.specs.Prelude.{ℤ}
 use Rattle.std.specs.List.{AllZip, Contains}
 use Rattle.std.proofs.lemmas.Bool.{cases_eq}
@@ -8,6 +8,7 @@ use Rattle.dpl_spec_split.specs.declared.Spacing.{Spacing}
 use Rattle.dpl_spec_split.specs.declared.Rect.{Rect}
 use Rattle.dpl_spec_split.specs.declared.Zone.{Zone}
 use Rattle.dpl_spec_split.specs.Squares.{Region}
+use Rattle.dpl_spec_split.proofs.Ordered.{Contains-nil}
 use Rattle.dpl_spec_split.specs.Components.{AreComponents}
 use Rattle.dpl_spec_split.specs.Zones.{AreSomeZones, part_at}
 use Rattle.dpl_spec_split.specs.Pieces.{without, AreSides}
@@ -19,7 +20,8 @@ use Rattle.dpl_sides.specs.declared.piece.Piece.{Piece}
 use Rattle.dpl_sides.specs.Corners.{corner_at, IsCornerOf, IsCornerWithin, StandsBefore, StandsAfter, StandBeside}
 use Rattle.dpl_sides.specs.Noted.{AreSidesNoted, StandsBeforeFrom, StandsAfterFrom}
 use Rattle.dpl_sides.specs.Pieces.{parts_in, rect_at, whole_piece, zone_at}
-use Rattle.dpl_piece.specs.Pieces.{broken_piece, feature_at, AddsPieces, AreHolesOf}
+use Rattle.dpl_piece.specs.Pieces.{broken_piece, feature_at, AddsPieces, AreBroken, AreHolesOf}
+use Rattle.dpl_piece.specs.Share.{AreSidesOfShare}
 use Rattle.dpl_piece.proofs.Broken.{broken-left}
 use Rattle.dpl_sides.proofs.CornerLaws.{number-is, renumber}
 use Rattle.dpl_piece.proofs.CornerLaws.{zip-length, zip-at, zip-from}
@@ -62,29 +64,47 @@ module _ (old more : List (List Rect)) (kind : Kind) (x y : ℤ) (k : ℕ) where
 pub some-corner : (kind : Kind) (parts : List (List Rect)) (from : ℕ) (c : Corner) → IsCornerWithin kind parts from (length parts) c → IsCornerOf kind parts c
 some-corner kind parts from c (i, r, low, high, r_in, is) = (i, r, high, r_in, is)
 
-some-before : (parts : List (List Rect)) (from : ℕ) (z : Zone) (k : ℕ) → StandsBeforeFrom parts from z k → StandsBefore parts z k
+pub some-before : (parts : List (List Rect)) (from : ℕ) (z : Zone) (k : ℕ) → StandsBeforeFrom parts from z k → StandsBefore parts z k
 some-before parts from z k (inl h) = inl (some-corner LowerRight parts from (corner_at z.rect.x0 z.rect.y0 k) h)
 some-before parts from z k (inr h) = inr (some-corner UpperLeft parts from (corner_at z.rect.x0 z.rect.y0 k) h)
 
-some-after : (parts : List (List Rect)) (from : ℕ) (z : Zone) (k : ℕ) → StandsAfterFrom parts from z k → StandsAfter parts z k
+pub some-after : (parts : List (List Rect)) (from : ℕ) (z : Zone) (k : ℕ) → StandsAfterFrom parts from z k → StandsAfter parts z k
 some-after parts from z k (inl h) = inl (some-corner LowerLeft parts from (corner_at z.rect.x1 z.rect.y0 k) h)
 some-after parts from z k (inr h) = inr (some-corner LowerLeft parts from (corner_at z.rect.x0 z.rect.y1 k) h)
 
--- for the zones of the first n features parts on both sides are noted
-pub record AreSidedBelow (zones : List Zone) (n : ℕ) (parts : List (List Rect)) (firsts seconds : List ℕ) : Type 0 where
-  pub firsts-each : length firsts ≡ length zones
-  pub seconds-each : length seconds ≡ length zones
-  pub before : (j : ℕ) → j < length zones → feature_at zones j < n → StandsBefore parts (zone_at zones j) (get_or firsts j 0)
-  pub after : (j : ℕ) → j < length zones → feature_at zones j < n → StandsAfter parts (zone_at zones j) (get_or seconds j 0)
+-- the share of the first n features
+abbrev pub IsBelow : ℕ → ℕ → Type 0
+IsBelow n k = k < n
 
 pub sided-none : (zones : List Zone) (parts : List (List Rect)) (firsts seconds : List ℕ) → length firsts ≡ length zones → length seconds ≡ length zones
-    → AreSidedBelow zones 0 parts firsts seconds
+    → AreSidesOfShare zones (Contains []) parts firsts seconds
 sided-none zones parts firsts seconds e f = record {
   firsts-each = e;
   seconds-each = f;
-  before = λ j j_in l. absurd (omega (arith, l));
-  after = λ j j_in l. absurd (omega (arith, l));
+  before = λ j j_in listed. absurd (Contains-nil (feature_at zones j) listed);
+  after = λ j j_in listed. absurd (Contains-nil (feature_at zones j) listed);
 }
+
+-- a part that stands beside a zone does so where more come behind it
+pub kept-before : (old more : List (List Rect)) (z : Zone) (k : ℕ) → StandsBefore old z k → StandsBefore (old ++ more) z k
+kept-before old more z k (inl h) = inl (kept-corner old more LowerRight z.rect.x0 z.rect.y0 k h)
+kept-before old more z k (inr h) = inr (kept-corner old more UpperLeft z.rect.x0 z.rect.y0 k h)
+
+pub kept-after : (old more : List (List Rect)) (z : Zone) (k : ℕ) → StandsAfter old z k → StandsAfter (old ++ more) z k
+kept-after old more z k (inl h) = inl (kept-corner old more LowerLeft z.rect.x1 z.rect.y0 k h)
+kept-after old more z k (inr h) = inr (kept-corner old more LowerLeft z.rect.x0 z.rect.y1 k h)
+
+-- and where others come before it, as many places later
+placed : (old more : List (List Rect)) (kind : Kind) (x y : ℤ) (k : ℕ) → IsCornerOf kind more (corner_at x y k) → IsCornerOf kind (old ++ more) (corner_at x y (length old + k))
+placed old more kind x y k h = some-corner kind (old ++ more) (length old) (corner_at x y (length old + k)) (moved-corner old more kind x y k h)
+
+pub moved-before : (old more : List (List Rect)) (z : Zone) (k : ℕ) → StandsBefore more z k → StandsBefore (old ++ more) z (length old + k)
+moved-before old more z k (inl h) = inl (placed old more LowerRight z.rect.x0 z.rect.y0 k h)
+moved-before old more z k (inr h) = inr (placed old more UpperLeft z.rect.x0 z.rect.y0 k h)
+
+pub moved-after : (old more : List (List Rect)) (z : Zone) (k : ℕ) → StandsAfter more z k → StandsAfter (old ++ more) z (length old + k)
+moved-after old more z k (inl h) = inl (placed old more LowerLeft z.rect.x1 z.rect.y0 k h)
+moved-after old more z k (inr h) = inr (placed old more LowerLeft z.rect.x0 z.rect.y1 k h)
 
 -- pieces are added behind the others
 pub adds-longer : (feature holes : List Rect) (n : ℕ) (pieces new : List Piece) → AddsPieces feature holes n pieces new → length pieces ≤ length new
@@ -102,7 +122,18 @@ module _ (spacing : Spacing) (overlap : ℕ) (features : List (List Rect)) (zone
   zone-in : (j : ℕ) → j < length zones → Contains zones (zone_at zones j)
   zone-in j j_in = (j, j_in, get_or_default zones j (zone_at zones j) (zone_at [] 0) j_in)
 
-  -- a zone of the feature stands between two of its new parts
+  -- a zone of the feature stands between two of the parts into which it is broken
+  pub broken-stand : (parts : List (List Rect)) → 0 < length holes → AreBroken (get_or features n []) holes parts → (j : ℕ) → j < length zones → feature_at zones j ≡ n
+      → (side : ℕ × ℕ) × StandsBefore parts (zone_at zones j) side.0 × StandsAfter parts (zone_at zones j) side.1
+  broken-stand parts some b j j_in is =
+      let z : Zone = zone_at zones j in
+      let ls : AreLeftOf (union_of features) zones (part_at features z.feature) parts = subst
+      (λ k. AreLeftOf (union_of features) zones (part_at features k) parts) (sym is)
+      (broken-left spacing overlap features zones c zs n n_in holes are parts some b.components b.apart) in
+      let (side, (one, two)) = stand spacing overlap (union_of features) features parts zones least c zs z (zone-in j j_in) ls in
+      (side, one, two)
+
+  -- or of its new ones
   new-stand : (pieces new : List Piece) → AddsPieces (get_or features n []) holes n pieces new → (j : ℕ) → j < length zones → feature_at zones j ≡ n
       → (side : ℕ × ℕ) × StandsBeforeFrom (parts_in new) (length (parts_in pieces)) (zone_at zones j) side.0
       × StandsAfterFrom (parts_in new) (length (parts_in pieces)) (zone_at zones j) side.1
@@ -110,10 +141,7 @@ module _ (spacing : Spacing) (overlap : ℕ) (features : List (List Rect)) (zone
       absurd (let (i, i_in, i_is) = (are (rect_at zones j)).1 (zone_at zones j, zone-in j j_in, is, refl) in omega (arith, i_in, none))
   new-stand pieces new (inr (some, b)) j j_in is =
       let z : Zone = zone_at zones j in
-      let ls : AreLeftOf (union_of features) zones (part_at features z.feature) b.parts = subst
-      (λ k. AreLeftOf (union_of features) zones (part_at features k) b.parts) (sym is)
-      (broken-left spacing overlap features zones c zs n n_in holes are b.parts some b.broken.components b.broken.apart) in
-      let (side, (one, two)) = stand spacing overlap (union_of features) features b.parts zones least c zs z (zone-in j j_in) ls in
+      let (side, one, two) = broken-stand b.parts some b.broken j j_in is in
       let old : List (List Rect) = parts_in pieces in
       let whole : parts_in new ≡ old ++ b.parts = ap parts_in b.added ∙ (map-append (λ x. let u : Piece = x in u.part) pieces (map (broken_piece n) b.parts)
       ∙ ap (λ l. old ++ l) (parts-broken n b.parts)) in
@@ -135,21 +163,13 @@ module _ (spacing : Spacing) (overlap : ℕ) (features : List (List Rect)) (zone
   more-parts pieces new (inr (some, b)) =
       (parts_in (map (broken_piece n) b.parts), ap parts_in b.added ∙ map-append (λ x. let u : Piece = x in u.part) pieces (map (broken_piece n) b.parts))
 
-  kept-before : (old more : List (List Rect)) (z : Zone) (k : ℕ) → StandsBefore old z k → StandsBefore (old ++ more) z k
-  kept-before old more z k (inl h) = inl (kept-corner old more LowerRight z.rect.x0 z.rect.y0 k h)
-  kept-before old more z k (inr h) = inr (kept-corner old more UpperLeft z.rect.x0 z.rect.y0 k h)
-
-  kept-after : (old more : List (List Rect)) (z : Zone) (k : ℕ) → StandsAfter old z k → StandsAfter (old ++ more) z k
-  kept-after old more z k (inl h) = inl (kept-corner old more LowerLeft z.rect.x1 z.rect.y0 k h)
-  kept-after old more z k (inr h) = inr (kept-corner old more LowerLeft z.rect.x0 z.rect.y1 k h)
-
   -- one feature more
-  pub sided-next : (pieces new : List Piece) (from : ℕ) (firsts seconds firsts-new seconds-new : List ℕ) → from ≡ length (parts_in pieces)
-      → AddsPieces (get_or features n []) holes n pieces new → AreSidedBelow zones n (parts_in pieces) firsts seconds
+  pub sided-next : (Share Next : ℕ → Type 0) → ((k : ℕ) → Next k → k ≢ n → Share k) → (pieces new : List Piece) (from : ℕ) (firsts seconds firsts-new seconds-new : List ℕ) → from ≡ length (parts_in pieces)
+      → AddsPieces (get_or features n []) holes n pieces new → AreSidesOfShare zones Share (parts_in pieces) firsts seconds
       → AreSidesNoted (StandsBeforeFrom (parts_in new) from) zones own firsts firsts-new
       → AreSidesNoted (StandsAfterFrom (parts_in new) from) zones own seconds seconds-new
-      → AreSidedBelow zones (n + 1) (parts_in new) firsts-new seconds-new
-  sided-next pieces new from firsts seconds firsts-new seconds-new from_is adds h one two =
+      → AreSidesOfShare zones Next (parts_in new) firsts-new seconds-new
+  sided-next Share Next but pieces new from firsts seconds firsts-new seconds-new from_is adds h one two =
       let (more, whole) = more-parts pieces new adds in
       record {
         firsts-each = one.each ∙ h.firsts-each;
@@ -161,7 +181,7 @@ module _ (spacing : Spacing) (overlap : ℕ) (features : List (List Rect)) (zone
               (one.noted j (there j j_in e) side.0 (subst (λ m. StandsBeforeFrom (parts_in new) m (zone_at zones j) side.0) (sym from_is) stands)))
           | inr ne ↦ (
               let is : get_or firsts-new j 0 ≡ get_or firsts j 0 = one.kept j (λ own_in. ne (mine j own_in)) in
-              rw (is, whole) (kept-before (parts_in pieces) more (zone_at zones j) (get_or firsts j 0) (h.before j j_in (omega (arith, l, ne)))))
+              rw (is, whole) (kept-before (parts_in pieces) more (zone_at zones j) (get_or firsts j 0) (h.before j j_in (but (feature_at zones j) l ne))))
         ];
         after = λ j j_in l. elim (cases_eq (feature_at zones j) n) [
           | inl e ↦ (
@@ -170,6 +190,6 @@ module _ (spacing : Spacing) (overlap : ℕ) (features : List (List Rect)) (zone
               (two.noted j (there j j_in e) side.1 (subst (λ m. StandsAfterFrom (parts_in new) m (zone_at zones j) side.1) (sym from_is) stands)))
           | inr ne ↦ (
               let is : get_or seconds-new j 0 ≡ get_or seconds j 0 = two.kept j (λ own_in. ne (mine j own_in)) in
-              rw (is, whole) (kept-after (parts_in pieces) more (zone_at zones j) (get_or seconds j 0) (h.after j j_in (omega (arith, l, ne)))))
+              rw (is, whole) (kept-after (parts_in pieces) more (zone_at zones j) (get_or seconds j 0) (h.after j j_in (but (feature_at zones j) l ne))))
         ];
       }

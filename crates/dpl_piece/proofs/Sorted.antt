@@ -23,7 +23,9 @@ use Rattle.dpl_slabs.specs.Parts.{AreApart, union_of}
 use Rattle.dpl_sides.specs.declared.piece.Piece.{Piece}
 use Rattle.dpl_sides.specs.Pieces.{parts_in, least_key, whole_piece, RiseByLeast}
 use Rattle.dpl_piece.specs.Pieces.{AreCut}
-use Rattle.dpl_piece.proofs.Broken.{IsPieceBelow, ArePiecesBelow, in-any}
+use Rattle.dpl_piece.specs.Share.{ArePiecesOf, IsPieceOf}
+use Rattle.dpl_piece.proofs.Broken.{in-any}
+use Rattle.dpl_piece.proofs.Sides.{IsBelow}
 use Rattle.dpl_feature.proofs.Orders.{pairs-rise}
 
 -- the least square of a part with some square is at its key
@@ -49,15 +51,15 @@ rise-first s t a b apart (inr (row, l)) =
     absurd (apart (key_point s) a.inside (subst (Covers t) (sym same) b.inside))))
 
 module _ (features : List (List Rect)) (zones : List Zone) (pieces sorted : List Piece)
-    (h : ArePiecesBelow features zones (length features) pieces) (same : IsPermutation pieces sorted) (rise : RiseByLeast sorted) where
+    (h : ArePiecesOf features zones (IsBelow (length features)) pieces) (same : IsPermutation pieces sorted) (rise : RiseByLeast sorted) where
   abbrev left : Region
   left = without (union_of features) zones
 
   nothing : Piece
   nothing = whole_piece 0 []
 
-  each : All (IsPieceBelow features zones (length features)) sorted
-  each k d k_in = All-contains (IsPieceBelow features zones (length features)) pieces (get_or sorted k d) h.each
+  each : All (IsPieceOf features zones (IsBelow (length features))) sorted
+  each k d k_in = All-contains (IsPieceOf features zones (IsBelow (length features))) pieces (get_or sorted k d) h.each
       (Contains-permutation sorted pieces (get_or sorted k d) (IsPermutation-sym pieces sorted same) (Contains-get_or sorted k d k_in))
 
   apart : AllPairs (λ x y. AreApart x.part y.part) sorted
@@ -69,7 +71,7 @@ module _ (features : List (List Rect)) (zones : List Zone) (pieces sorted : List
   part-is : (k : ℕ) (d : List Rect) → k < length (parts_in sorted) → get_or (parts_in sorted) k d ≡ (get_or sorted k nothing).part
   part-is k d k_in = get_or-map (λ x. x.part) sorted k nothing d (in-sorted k k_in)
 
-  each-part : (P : List Rect → Type 0) → ((x : Piece) → IsPieceBelow features zones (length features) x → P x.part) → All P (parts_in sorted)
+  each-part : (P : List Rect → Type 0) → ((x : Piece) → IsPieceOf features zones (IsBelow (length features)) x → P x.part) → All P (parts_in sorted)
   each-part P from k d k_in = rw (part-is k d k_in) (from (get_or sorted k nothing) (each k nothing (in-sorted k k_in)))
 
   pairs-part : AllPairs AreApart (parts_in sorted)

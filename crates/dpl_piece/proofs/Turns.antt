@@ -7,8 +7,8 @@ use Rattle.std.specs.Ordering.{is_lt, nat_cmp, ordering_then}
 use Rattle.std.specs.declared.cmp.Ordering.{Ordering}
 use Rattle.std.specs.declared.cmp.Ordering.TheVariants.{Less, Equal, Greater}
 use Rattle.std.proofs.lemmas.Cmp.{ranked, nat_cmp_total, then_total, on_total}
-use Rattle.std.proofs.lemmas.Bool.{cases_lt}
-use Rattle.std.proofs.lemmas.List.{append_assoc, get_or_at, drop-drop, get_or_default, get_or-drop, get_or-take, length-append, length-drop, length-take, take-append-drop}
+use Rattle.std.proofs.lemmas.Bool.{cases_eq}
+use Rattle.std.proofs.lemmas.List.{append_assoc, get_or_at, get_or_default, get_or-drop, get_or-take, length-append, length-drop, length-take, take-append-drop}
 use Rattle.std.proofs.lemmas.List.Elements.{All-contains, All-push, Contains-get_or, Contains-append_left, Contains-append_right, Contains-append_cases}
 use Rattle.std.proofs.lemmas.List.FromFn.{length-range_with_len, get_or-range_with_len}
 use Rattle.std.proofs.lemmas.List.Sorted.{Contains-permutation, IsPermutation-sym, ranks_by, sorted_far}
@@ -17,6 +17,7 @@ use Rattle.dpl_spec_split.specs.declared.Rect.{Rect}
 use Rattle.dpl_spec_split.specs.declared.Zone.{Zone}
 use Rattle.dpl_sides.proofs.CornerLaws.{Contains-map, map-Contains}
 use Rattle.dpl_sides.specs.Pieces.{zone_at, rect_at}
+use Rattle.dpl_piece.specs.Made.{BeginsAt}
 use Rattle.dpl_piece.specs.Pieces.{feature_at, AreHolesOf, AreZonesFrom, AreZonesOf}
 
 -- each number below n, and no other
@@ -112,46 +113,30 @@ zones-first zones rest n h some =
       );
     }
 
--- numbers sorted by feature, of which those of feature f end past a place
-module _ (zones : List Zone) (sorted : List ℕ) (place m f : ℕ) (h : AreZonesFrom zones 0 sorted) (some : 0 < place) (within : place ≤ length sorted)
-    (is : f ≡ feature_at zones (get_or sorted (place - 1) 0)) (own : All (λ j. feature_at zones j ≡ f) (take m (drop place sorted)))
-    (next : m < length (drop place sorted) → (d : ℕ) → feature_at zones (get_or (drop place sorted) m d) ≢ f) where
-  before : (d : ℕ) → feature_at zones (get_or sorted (place - 1) d) ≡ f
-  before d = ap (feature_at zones) (get_or_default sorted (place - 1) d 0 (omega (arith, some, within))) ∙ sym is
+pub zones-first-is : (zones : List Zone) (sorted : List ℕ) (place : ℕ) → feature_at zones (get_or (drop place sorted) 0 0) ≡ feature_at zones (get_or sorted place 0)
+zones-first-is zones sorted place = ap (feature_at zones) (get_or-drop place sorted 0 0 ∙ ap (λ k. get_or sorted k 0) (omega arith))
 
-  back : (i d : ℕ) → get_or (drop place sorted) i d ≡ get_or sorted (place + i) d
-  back i d = get_or-drop place sorted i d
-
-  up-to : (i d : ℕ) → i < place + m → i < length sorted → feature_at zones (get_or sorted i d) ≤ f
-  up-to i d l i_in = elim (cases_lt i place) [
-    | inl early ↦ (let up = h.rise i (place - 1) d (omega (arith, early)) (omega (arith, some, within)) in let last = before d in omega (arith, up, last))
-    | inr late ↦ (
-        let k : ℕ = i - place in
-        let there : place + k ≡ i = omega (arith, late) in
-        let low : k < m = omega (arith, l, there) in
-        let in-back : k < length (drop place sorted) = omega (arith, i_in, there, length-drop place sorted) in
-        let one = own k d (omega (arith, low, in-back, length-take m (drop place sorted))) in
-        let at : get_or (take m (drop place sorted)) k d ≡ get_or sorted i d = get_or-take m (drop place sorted) k d low ∙ back k d ∙ ap (λ n. get_or sorted n d) there in
-        omega (arith, one, ap (feature_at zones) at))
-  ]
-
-  low : All (λ j. feature_at zones j ≤ f) (take (place + m) sorted)
-  low i d i_in =
-      let i_low : i < place + m = omega (arith, i_in, length-take (place + m) sorted) in
-      let i_all : i < length sorted = omega (arith, i_in, length-take (place + m) sorted) in
-      omega (arith, up-to i d i_low i_all, ap (feature_at zones) (get_or-take (place + m) sorted i d i_low))
-
-  high : place + m < length sorted → (d : ℕ) → f < feature_at zones (get_or sorted (place + m) d)
-  high m_in d =
-      let up = h.rise (place - 1) (place + m) d (omega arith) m_in in
-      let last = before d in
-      let differ = next (omega (arith, m_in, length-drop place sorted)) d in
-      let at = ap (feature_at zones) (back m d) in
-      omega (arith, up, last, differ, at)
-
-  -- then come the zones of the features after it
-  pub zones-later : AreZonesFrom zones (f + 1) (drop m (drop place sorted))
-  zones-later = rw (drop-drop m place sorted) (zones-past zones sorted 0 (place + m) f h (omega arith) low high)
+-- the zones of the feature whose zones begin at a place, and of those after it
+pub zones-begin : (zones : List Zone) (sorted : List ℕ) (place : ℕ) → AreZonesFrom zones 0 sorted → place < length sorted → BeginsAt zones sorted place
+    → AreZonesFrom zones (feature_at zones (get_or sorted place 0)) (drop place sorted)
+zones-begin zones sorted place h place_in begins = elim (cases_eq place 0) [
+  | inl none ↦ rw none (zones-first zones sorted 0 h (omega (arith, place_in)))
+  | inr some ↦ (
+      let f : ℕ = feature_at zones (get_or sorted (place - 1) 0) in
+      let g : ℕ = feature_at zones (get_or sorted place 0) in
+      let up = h.rise (place - 1) place 0 (omega arith) place_in in
+      let later : f < g = elim begins [
+        | inl none ↦ absurd (some none)
+        | inr differ ↦ omega (arith, up, differ)
+      ] in
+      let low : All (λ j. feature_at zones j ≤ f) (take place sorted) = λ i d i_in. (
+      let i_place : i < place = omega (arith, i_in, length-take place sorted) in
+      let same : get_or (take place sorted) i d ≡ get_or sorted i 0 = get_or-take place sorted i d i_place ∙ get_or_default sorted i d 0 (omega (arith, i_place, place_in)) in
+      rw same (h.rise i (place - 1) 0 (omega (arith, i_place)) (omega (arith, place_in)))) in
+      let high : place < length sorted → (d : ℕ) → f < feature_at zones (get_or sorted place d) = λ l d. rw (get_or_default sorted place d 0 place_in) later in
+      let first : get_or (drop place sorted) 0 0 ≡ get_or sorted place 0 = get_or-drop place sorted 0 0 ∙ ap (λ k. get_or sorted k 0) (omega arith) in
+      rw first at (zones-first zones (drop place sorted) (f + 1) (zones-past zones sorted 0 place f h (omega arith) low high) (omega (arith, place_in, length-drop place sorted))))
+]
 
 -- the rectangles of a feature's zones
 module _ (zones : List Zone) (n : ℕ) (own : List ℕ) (are : AreZonesOf zones n own) where

@@ -1,10 +1,10 @@
 -- Features that zones cut, as they were before.
-use Rattle.std.proofs.Common.{◌≡◌, ℕ, ◌+◌, ◌<◌, ◌⊎◌, inl, inr, List, [], ◌∷◌, length, get_or, refl, sym, ap, ◌∙◌, subst, arith}
+use Rattle.std.proofs.Common.{◌≡◌, ℕ, ◌+◌, ◌<◌, ◌⊎◌, inl, inr, List, [], ◌∷◌, ◌++◌, length, get_or, refl, sym, ap, ◌∙◌, subst, arith}
 use Rattle.std.specs.Prelude.{ℤ, pos, ◌-ℤ◌}
 use Rattle.std.specs.List.{All, AllPairs, AllZip, Contains}
-use Rattle.std.proofs.lemmas.Bool.{cases_eq, cases_lt, cases_order}
+use Rattle.std.proofs.lemmas.Bool.{cases_eq, cases_order}
 use Rattle.std.proofs.lemmas.Int.{ints}
-use Rattle.std.proofs.lemmas.List.{get_or_default, get_or-map, get_or_past, length-map}
+use Rattle.std.proofs.lemmas.List.{get_or_default, get_or-map, length-map}
 use Rattle.std.proofs.lemmas.List.Elements.{All-contains, All-push, Contains-append_left, Contains-get_or, Contains-push}
 use Rattle.std.proofs.lemmas.List.Quantifiers.{all_pairs_push}
 use Rattle.dpl_spec_split.specs.declared.Pt.{Pt}
@@ -33,19 +33,10 @@ use Rattle.dpl_piece.specs.Cutting.{AreFeatures, AreTheirZones}
 use Rattle.dpl_sides.specs.Pieces.{parts_in, whole_piece}
 use Rattle.dpl_piece.specs.Pieces.{AreCut, AreHolesOf, HasZone, owners_in}
 use Rattle.dpl_piece.specs.Wholes.{AreOwnSides, AreWholes, AreWholesBelow, HasWhole, IsZoneIn, KeepsWhole, LieIn, LieInSome, whole_of}
-use Rattle.dpl_piece.proofs.Beside.{closed, in-set, kept, kept-inside}
+use Rattle.dpl_piece.proofs.Beside.{closed, in-set, kept, kept-inside, part-known}
 use Rattle.dpl_sides.proofs.CornerLaws.{corner-number}
 use Rattle.dpl_piece.proofs.CornerLaws.{zip-at, zip-from, zip-length}
 use Rattle.dpl_piece.proofs.Cuts.{all-owned, comps}
-
-covers-none : (p : Pt) → Covers [] p → ⊥
-covers-none p (k, r, k_in, is, has) = omega (arith, k_in)
-
-pub part-known : (features : List (List Rect)) (f : ℕ) (p : Pt) → part_at features f p → f < length features
-part-known features f p in_f = elim (cases_lt f (length features)) [
-  | inl l ↦ l
-  | inr past ↦ absurd (covers-none p (subst (λ s. Covers s p) (get_or_past features f [] past) in_f))
-]
 
 -- of features that don't touch, only one has squares that touch
 pub feature-one : (features : List (List Rect)) (f g : ℕ) (p q : Pt) → AllPairs AreUntouched features → part_at features f p → part_at features g q → Touch p q → f ≡ g
@@ -64,21 +55,10 @@ wholes-none features zones = record {
   each = λ k l. absurd (omega (arith, l));
 }
 
-module _ (features : List (List Rect)) (zones : List Zone) (n : ℕ) (holes : List Rect) (own : AreHolesOf zones n holes) where
-  no-zone : length holes ≡ 0 → HasZone zones n → ⊥
-  no-zone none (z, z_in, e) = (let (i, i_in, is) = (own z.rect).1 (z, z_in, e, refl) in omega (arith, none, i_in))
-
-  -- one feature more
-  pub wholes-next : (old new : List Whole) → AreWholesBelow features zones n old → KeepsWhole (get_or features n []) holes n old new → AreWholesBelow features zones (n + 1) new
-  wholes-next old new h (inl (none, is)) = rw is (record {
-    kept = λ k d k_in. (let (l, e) = h.kept k d k_in in (omega (arith, l), e));
-    rise = h.rise;
-    each = λ k l zone. elim (cases_eq k n) [
-      | inl e ↦ absurd (no-zone none (subst (HasZone zones) e zone))
-      | inr ne ↦ h.each k (omega (arith, l, ne)) zone
-    ];
-  })
-  wholes-next old new h (inr (some, is)) =
+module _ (features : List (List Rect)) (zones : List Zone) (n : ℕ) (old new : List Whole) (h : AreWholesBelow features zones n old) where
+  -- one feature more is kept
+  pub wholes-kept : new ≡ old ++ whole_of n (get_or features n []) ∷ [] → AreWholesBelow features zones (n + 1) new
+  wholes-kept is =
       let new_one : Whole = whole_of n (get_or features n []) in
       rw is (record {
         kept = All-push (λ w. (w.feature < n + 1) × (get_or features w.feature [] ≡ w.set)) old new_one
@@ -89,6 +69,25 @@ module _ (features : List (List Rect)) (zones : List Zone) (n : ℕ) (holes : Li
           | inr ne ↦ (let (w, w_in, w_is) = h.each k (omega (arith, l, ne)) zone in (w, Contains-append_left old (new_one ∷ []) w w_in, w_is))
         ];
       })
+
+  -- or one without a zone isn't
+  wholes-left : (HasZone zones n → ⊥) → new ≡ old → AreWholesBelow features zones (n + 1) new
+  wholes-left none is = rw is (record {
+    kept = λ k d k_in. (let (l, e) = h.kept k d k_in in (omega (arith, l), e));
+    rise = h.rise;
+    each = λ k l zone. elim (cases_eq k n) [
+      | inl e ↦ absurd (none (subst (HasZone zones) e zone))
+      | inr ne ↦ h.each k (omega (arith, l, ne)) zone
+    ];
+  })
+
+  module _ (holes : List Rect) (own : AreHolesOf zones n holes) where
+    no-zone : length holes ≡ 0 → HasZone zones n → ⊥
+    no-zone none (z, z_in, e) = (let (i, i_in, is) = (own z.rect).1 (z, z_in, e, refl) in omega (arith, none, i_in))
+
+    pub wholes-next : KeepsWhole (get_or features n []) holes n old new → AreWholesBelow features zones (n + 1) new
+    wholes-next (inl (none, is)) = wholes-left (no-zone none) is
+    wholes-next (inr (some, is)) = wholes-kept is
 
 origin-cases : (o : Origin) → (o ≡ AsWhole) ⊎ (o ≡ Broken)
 origin-cases AsWhole = inl refl

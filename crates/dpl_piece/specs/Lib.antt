@@ -1,5 +1,6 @@
 pub mod Cutting
 pub mod Pieces
+pub mod Share
 pub mod Made
 pub mod Wholes
 pub mod View

@@ -1,17 +1,19 @@
 -- Pieces of features that are made before the features' turn.
-use Rattle.std.specs.Prelude.{◌≡◌, ◌<◌, ◌↔◌, ℕ, Option, Some, None, Vec, List, [], ◌∷◌, ◌++◌, length, map, slice_index_or}
+use Rattle.std.specs.Prelude.{◌≡◌, ◌≢◌, ◌+◌, ◌-◌, ◌<◌, ◌≤◌, ◌↔◌, ◌⊎◌, ℕ, Option, Some, None, Vec, List, [], ◌∷◌, ◌++◌, length, map, slice_index_or}
 use Rattle.std.specs.Global.{Global}
-use Rattle.std.specs.List.{All, Contains, flat_map}
+use Rattle.std.specs.List.{All, AllPairs, Contains}
 use Rattle.dpl_spec_split.specs.declared.Rect.{Rect}
 use Rattle.dpl_spec_split.specs.declared.Zone.{Zone}
-use Rattle.dpl_piece.specs.declared.pile.Pile.{Pile}
-use Rattle.dpl_piece.specs.declared.pile.Counts.{Counts}
-use Rattle.dpl_piece.specs.declared.made.Made.{Made}
+use Rattle.dpl_sides.specs.declared.sided.Sided.{Sided}
 use Rattle.dpl_sides.specs.declared.standing.Side.TheVariants.{Before, After}
+use Rattle.dpl_sides.specs.Corners.{StandsAfter, StandsBefore}
 use Rattle.dpl_sides.specs.Noted.{AreSidesOf, StandsAfterFrom, StandsBeforeFrom}
-use Rattle.dpl_sides.specs.Pieces.{rect_at}
-use Rattle.dpl_piece.specs.Pieces.{broken_piece, feature_at, AreBroken, AreHolesOf}
+use Rattle.dpl_sides.specs.Pieces.{parts_in, rect_at, zone_at}
 use Rattle.dpl_sides.specs.Sided.{numbers_in, sides_in}
+use Rattle.dpl_piece.specs.declared.pile.Pile.{Pile}
+use Rattle.dpl_piece.specs.declared.made.Made.{Made}
+use Rattle.dpl_piece.specs.Pieces.{broken_piece, feature_at, AreBroken, AreHolesOf}
+use Rattle.dpl_piece.specs.Share.{ArePiecesOf}
 
 -- the pieces are those into which the listed zones break the feature, and for each of these zones some that stand on its two sides are listed
 pub record AreMadeOf (feature : List Rect) (zones : List Zone) (m : Made) : Type 0 where
@@ -28,25 +30,51 @@ pub record IsMade (features : List (List Rect)) (zones : List Zone) (m : Made) :
   pub holes : AreHolesOf zones m.feature (map (rect_at zones) (numbers_in m.zones.items))
   pub are : AreMadeOf (slice_index_or features m.feature []) zones m
 
--- how many pieces and zones a feature has
-abbrev pub counts_of : Made → Counts
-counts_of m = record { feature = m.feature; pieces = length m.pieces.items; zones = length m.zones.items }
+-- pieces number s.first and s.second of these parts stand on the two sides of zone number s.zone
+abbrev pub IsSided : List (List Rect) → List Zone → Sided → Type 0
+IsSided parts zones s = StandsBefore parts (zone_at zones s.zone) s.first × StandsAfter parts (zone_at zones s.zone) s.second
 
--- the last of these is the feature's
-abbrev pub IsLast : List Counts → ℕ → Type 0
-IsLast counts k = (front : List Counts) × (s : Counts) × (counts ≡ front ++ s ∷ []) × (s.feature ≡ k)
+-- the same zone where so many pieces come first
+abbrev pub moved_by : ℕ → Sided → Sided
+moved_by n s = record { zone = s.zone; first = n + s.first; second = n + s.second }
 
--- the lists have what was made of features, one after the other
-pub record IsPileOf (ms : List Made) (b : Pile) : Type 0 where
-  pub counts : b.counts.items ≡ map counts_of ms
-  pub pieces : b.pieces.items ≡ flat_map (λ m. m.pieces.items) ms
-  pub zones : b.zones.items ≡ flat_map (λ m. m.zones.items) ms
+pub record IsEmptyPile (b : Pile) : Type 0 where
+  pub features : b.features.items ≡ []
+  pub pieces : b.pieces.items ≡ []
+  pub zones : b.zones.items ≡ []
 
--- a pile of features, each with what its own zones make of it
+-- what was made of a feature was added behind the rest
+pub record AddsMade (m : Made) (old new : Pile) : Type 0 where
+  pub features : new.features.items ≡ old.features.items ++ m.feature ∷ []
+  pub pieces : new.pieces.items ≡ old.pieces.items ++ m.pieces.items
+  pub zones : new.zones.items ≡ old.zones.items ++ map (moved_by (length old.pieces.items)) m.zones.items
+
+-- the pieces of features whose numbers rise, and their zones with pieces on the two sides of each
 pub record AreMade (features : List (List Rect)) (zones : List Zone) (b : Pile) : Type 0 where
-  pub each : List Made
-  pub are : All (IsMade features zones) each
-  pub is : IsPileOf each b
+  pub known : All (λ k. k < length features) b.features.items
+  pub rise : AllPairs (λ j k. j < k) b.features.items
+  pub pieces : ArePiecesOf features zones (Contains b.features.items) b.pieces.items
+  pub own : (j : ℕ) → Contains (numbers_in b.zones.items) j ↔ ((j < length zones) × Contains b.features.items (feature_at zones j))
+  pub sided : All (IsSided (parts_in b.pieces.items) zones) b.zones.items
+
+-- each of some numbers is below each of others
+abbrev pub AreBelow : List ℕ → List ℕ → Type 0
+AreBelow js ks = (j k : ℕ) → Contains js j → Contains ks k → j < k
+
+-- piles of features whose numbers rise from the first pile to the last
+pub record AreAllMade (features : List (List Rect)) (zones : List Zone) (piles : List Pile) : Type 0 where
+  pub each : All (AreMade features zones) piles
+  pub rise : AllPairs (λ a b. AreBelow a.features.items b.features.items) piles
+
+-- the zones of a feature begin at this place of numbers that are sorted by feature
+abbrev pub BeginsAt : List Zone → List ℕ → ℕ → Type 0
+BeginsAt zones sorted place = (place ≡ 0) ⊎ (feature_at zones (slice_index_or sorted (place - 1) 0) ≢ feature_at zones (slice_index_or sorted place 0))
+
+-- feature k comes behind that of the last place before one, and not behind that of the last place before another
+pub record IsOfPlaces (zones : List Zone) (sorted : List ℕ) (from to k : ℕ) : Type 0 where
+  pub some : from < to
+  pub behind : (from ≡ 0) ⊎ (feature_at zones (slice_index_or sorted (from - 1) 0) < k)
+  pub upto : k ≤ feature_at zones (slice_index_or sorted (to - 1) 0)
 
 -- no part was made where there is no hole, or else those into which the holes break the feature
 abbrev pub AreLeft : List Rect → List Rect → Option (Vec (List Rect) Global) → Type 0

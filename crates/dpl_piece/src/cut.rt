@@ -3,7 +3,7 @@ ghost use Rattle.std.specs.Prelude.{ℕ, ◌≡◌, IfOk};
 ghost use Rattle.std.specs.List.{All};
 ghost use Rattle.dpl_sides.specs.Corners.{StandBeside};
 ghost use Rattle.dpl_piece.specs.Cutting.{AreBarePieces, AreFeatures, AreTheirZones, AreTheirPieces};
-ghost use Rattle.dpl_piece.specs.Made.{AreMade};
+ghost use Rattle.dpl_piece.specs.Made.{AreAllMade};
 ghost use Rattle.dpl_piece.specs.Pieces.{AreZonesFrom};
 
 use crate::bare::BarePieces;
@@ -32,7 +32,7 @@ fn bare_of(
     requires features { AreFeatures features }
     requires zones { AreTheirZones features zones.items }
     requires sorted { AreZonesFrom zones.items 0 sorted.items }
-    requires made { All (AreMade features zones.items) made.items }
+    requires made { AreAllMade features zones.items made.items }
     ensures zones { IfOk result (λ b. b.zones ≡ zones.items) }
     ensures pieces { IfOk result (AreBarePieces features zones.items) }
     ensures stand { IfOk result (λ b. All (λ z. (side : ℕ × ℕ) × StandBeside b.parts z side) b.zones) }

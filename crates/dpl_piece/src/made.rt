@@ -1,19 +1,17 @@
 //! What zones leave of features, made by workers before the features' turn.
-ghost use Rattle.std.specs.Prelude.{◌≡◌, ◌≢◌, ◌+◌, ◌-◌, ◌++◌, ◌<◌, ◌≤◌, ◌↔◌, ◌⊎◌, List, [], IsTrue, IfOk, IfSome, OnOk, length, map, slice_index_or};
+ghost use Rattle.std.specs.Prelude.{◌≡◌, ◌+◌, ◌++◌, ◌∷◌, ◌<◌, ◌≤◌, ◌↔◌, [], IsTrue, IfOk, Ok, OnOk, length, map, slice_index_or};
 ghost use Rattle.std.specs.List.{All};
-ghost use Rattle.dpl_spec_split.specs.declared.Rect.{Rect as RectOf};
-ghost use Rattle.dpl_spec_split.specs.declared.Zone.{Zone as ZoneOf};
 ghost use Rattle.dpl_spec_split.specs.Loops.{farthest, AreRectsWithin};
 ghost use Rattle.dpl_piece.specs.Cutting.{AreFeatures, AreTheirZones};
 ghost use Rattle.dpl_sides.specs.declared.standing.Side.TheVariants.{Before, After};
 ghost use Rattle.dpl_sides.specs.Noted.{AreSidesOf, StandsAfterFrom, StandsBeforeFrom};
-ghost use Rattle.dpl_sides.specs.Sided.{numbers_in, on_side, sides_in};
-ghost use Rattle.dpl_piece.specs.Made.{AreMade, AreMadeOf, IsMade};
+ghost use Rattle.dpl_sides.specs.Sided.{numbers_in, sides_in};
+ghost use Rattle.dpl_piece.specs.Made.{AreAllMade, AreMade, AreMadeOf, BeginsAt, IsOfPlaces};
 ghost use Rattle.dpl_sides.specs.Pieces.{parts_in, rect_at};
 ghost use Rattle.dpl_piece.specs.Pieces.{broken_piece, feature_at, AddsBroken, AreBroken, AreZonesFrom};
 
 use crate::bar::bar_parts;
-use crate::own::{feature_of, holes_at, own_count, rest_from, short_numbers, zones_at};
+use crate::own::{feature_of, holes_at, own_count, short_numbers, zones_at};
 use crate::pile::Pile;
 use dpl_base::{Id, Rect, Zone, give_back};
 use dpl_sides::{Origin, Piece, Sided, sides_of, with_sides};
@@ -143,7 +141,7 @@ fn threads_for(zones: usize, share: usize) -> usize {
 /// Whether the zones of a feature begin at this place.
 fn begins(zones: &[Zone], sorted: &[u32], place: usize) -> bool
     requires { place < length sorted.now }
-    ensures { IsTrue result ↔ ((place ≡ 0) ⊎ (feature_at zones.now (slice_index_or sorted.now (place - 1) 0) ≢ feature_at zones.now (slice_index_or sorted.now place 0))) }
+    ensures { IsTrue result ↔ BeginsAt zones.now sorted.now place }
 {
     if place == 0 {
         return true;
@@ -152,7 +150,7 @@ fn begins(zones: &[Zone], sorted: &[u32], place: usize) -> bool
     feature_of(zones, before) != feature_of(zones, sorted[place] as usize)
 }
 
-/// Adds what is made of the feature whose zones begin at this place.
+/// Adds what is made of the feature whose zones begin at this place, which comes behind the others.
 fn add_from<R: Threads>(
     rt: &R,
     alloc: Global,
@@ -167,15 +165,15 @@ fn add_from<R: Threads>(
     requires zones { AreTheirZones features.now zones.now }
     requires within { All (AreRectsWithin farthest) features.now }
     requires sorted { AreZonesFrom zones.now 0 sorted.now }
-    requires place { place ≤ length sorted.now }
+    requires place { place < length sorted.now }
+    requires begins { BeginsAt zones.now sorted.now place }
     requires made { AreMade features.now zones.now made.old }
-    ensures { OnOk result (AreMade features.now zones.now made.new) }
+    requires behind { All (λ k. k < feature_at zones.now (slice_index_or sorted.now place 0)) made.old.features.items }
+    ensures made { OnOk result (AreMade features.now zones.now made.new) }
+    ensures features { OnOk result (made.new.features.items ≡ made.old.features.items ++ feature_at zones.now (slice_index_or sorted.now place 0) ∷ []) }
 {
-    let rest = rest_from(zones, sorted, place);
-    if rest.is_empty() {
-        return Ok(());
-    }
-    let feature = feature_of(zones, rest[0] as usize);
+    let feature = feature_of(zones, sorted[place] as usize);
+    let (_, rest) = sorted.split_at(place);
     let (own, _) = rest.split_at(own_count(zones, rest, feature));
     let next = made_of(
         rt,
@@ -189,7 +187,7 @@ fn add_from<R: Threads>(
     made.add(next)
 }
 
-/// Breaks the features whose zones begin at one of so many places from a place on. The last of them comes first.
+/// Breaks the features whose zones begin at one of so many places from a place on.
 fn made_from<R: Threads>(
     rt: &R,
     alloc: Global,
@@ -204,11 +202,11 @@ fn made_from<R: Threads>(
     requires within { All (AreRectsWithin farthest) features.now }
     requires sorted { AreZonesFrom zones.now 0 sorted.now }
     requires place { place + count ≤ length sorted.now }
-    ensures { IfOk result (AreMade features.now zones.now) }
+    ensures made { IfOk result (AreMade features.now zones.now) }
+    ensures places { IfOk result (λ b. All (IsOfPlaces zones.now sorted.now place (place + count)) b.features.items) }
 {
     let mut made = Pile::with_room(alloc, count)?;
-    for i in 0..count {
-        let at = place + (count - 1 - i);
+    for at in place..place + count {
         if begins(zones, sorted, at) {
             add_from(rt, alloc, &mut made, features, zones, sorted, at, count)?;
         }
@@ -216,29 +214,18 @@ fn made_from<R: Threads>(
     Ok(made)
 }
 
-/// Adds a pile, unless it has no feature.
-fn add_some(made: &mut Vec<Pile>, pile: Pile) -> Result<(), AllocError>
-    ensures { OnOk result ((features : List (List RectOf)) (zones : List ZoneOf) → AreMade features zones pile → All (AreMade features zones) made.old.items → All (AreMade features zones) made.new.items) }
+/// The piles, where each was made.
+fn gathered(alloc: Global, made: Vec<Result<Pile, AllocError>>) -> Result<Vec<Pile>, AllocError>
+    ensures { IfOk result (λ v. made.items ≡ map Ok v.items) }
 {
-    if pile.last().is_some() {
-        made.push(pile)?;
+    let mut piles = Vec::with_capacity(alloc, made.len())?;
+    for pile in made {
+        piles.push(pile?)?;
     }
-    Ok(())
+    Ok(piles)
 }
 
-/// Those of the piles that have a feature, the last of them first.
-fn gathered(alloc: Global, piles: Vec<Result<Pile, AllocError>>) -> Result<Vec<Pile>, AllocError>
-    ensures { IfOk result (λ v. (features : List (List RectOf)) (zones : List ZoneOf) → All (λ r. IfOk r (AreMade features zones)) piles.items → All (AreMade features zones) v.items) }
-{
-    let mut made = Vec::new(alloc);
-    for pile in piles {
-        add_some(&mut made, pile?)?;
-    }
-    made.reverse();
-    Ok(made)
-}
-
-/// The pieces of the features with zones, made by so many workers, each of which has as many zones. The pile of the last features comes first; one without a feature, as of a worker that has a part of a feature's zones alone, is left out.
+/// The pieces of the features with zones, made by so many workers, each of which has as many zones: a pile for each of them, without a feature where a worker has a part of a feature's zones alone.
 pub fn made_by<R: Threads + Sync>(
     rt: &R,
     alloc: Global,
@@ -252,37 +239,15 @@ pub fn made_by<R: Threads + Sync>(
     requires within { All (AreRectsWithin farthest) features.now }
     requires sorted { AreZonesFrom zones.now 0 sorted.now }
     requires workers { 1 ≤ workers }
-    ensures { IfOk result (λ v. All (AreMade features.now zones.now) v.items) }
+    ensures { IfOk result (λ v. AreAllMade features.now zones.now v.items) }
 {
     let size = sorted.len().div_ceil(workers as usize).max(1);
-    let piles = map_chunks(
+    let made = map_chunks(
         rt,
         alloc,
         sorted,
         size,
         &|place, chunk| { made_from(rt, alloc, features, zones, sorted, place, chunk.len()) },
     )?;
-    gathered(alloc, piles)
-}
-
-/// Takes what was made of a feature, where that is what the last pile has last. A pile of which all is taken goes.
-pub fn taken(made: &mut Vec<Pile>, feature: Id) -> Result<Option<Made>, AllocError>
-    ensures made { IfOk result (λ o. (features : List (List RectOf)) (zones : List ZoneOf) → All (AreMade features zones) made.old.items → All (AreMade features zones) made.new.items × IfSome o (IsMade features zones)) }
-    ensures feature { IfOk result (λ o. IfSome o (λ m. m.feature ≡ feature)) }
-{
-    let count = made.len();
-    if count == 0 {
-        return Ok(None);
-    }
-    let Some(last) = made[count - 1].last() else {
-        return Ok(None);
-    };
-    if last != feature {
-        return Ok(None);
-    }
-    let taken = made[count - 1].take()?;
-    if made[count - 1].last().is_none() {
-        made.pop();
-    }
-    Ok(taken)
+    gathered(alloc, made)
 }

@@ -79,18 +79,3 @@ pub fn zones_at(alloc: Global, zones: &[Zone], numbers: &[u32]) -> Result<Vec<Zo
     }
     Ok(some)
 }
-
-/// The numbers from a place on, past those of a feature whose zones begin before it.
-pub fn rest_from<'a>(zones: &[Zone], sorted: &'a [u32], place: usize) -> &'a [u32]
-    requires sorted { AreZonesFrom zones.now 0 sorted.now }
-    requires place { place ≤ length sorted.now }
-    ensures { (n : ℕ) × AreZonesFrom zones.now n result.now }
-{
-    if place == 0 {
-        return sorted;
-    }
-    let before = feature_of(zones, sorted[place - 1] as usize);
-    let (_, rest) = sorted.split_at(place);
-    let (_, others) = rest.split_at(own_count(zones, rest, before));
-    others
-}

@@ -1,38 +1,48 @@
 //! What zones leave of features, one after the other.
-ghost use Rattle.std.specs.Prelude.{◌++◌, ◌∷◌, [], List, IfOk, IfSome, OnOk};
-ghost use Rattle.dpl_spec_split.specs.declared.Rect.{Rect as RectOf};
-ghost use Rattle.dpl_spec_split.specs.declared.Zone.{Zone as ZoneOf};
-ghost use Rattle.dpl_piece.specs.declared.made.Made.{Made as MadeOf};
-ghost use Rattle.dpl_piece.specs.Made.{AreMade, IsPileOf, IsLast, IsMade};
+ghost use Rattle.std.specs.Prelude.{◌≡◌, ◌+◌, ◌++◌, [], IfOk, OnOk, map};
+ghost use Rattle.dpl_piece.specs.Made.{AddsMade, IsEmptyPile, moved_by};
 
 use crate::made::Made;
-use dpl_base::{Id, give_back};
+use dpl_base::{Id, short_id};
 use dpl_sides::{Piece, Sided};
 use std::alloc::{AllocError, Global};
 
-/// How many pieces and zones a feature has in the lists of a pile.
-#[derive(Clone, Copy, Drop)]
-pub struct Counts {
-    pub feature: Id,
-    pub pieces: usize,
-    pub zones: usize,
-}
-
-/// The numbers of features with zones, the pieces into which those break them, and their zones, as `Made` has them of one: three lists for all, so that a feature has none of its own.
+/// The numbers of features with zones, in order, the pieces into which those break them, and their zones, for which the first of all these pieces is number 0: three lists for all, so that a feature has none of its own.
 #[derive(Drop)]
 pub struct Pile {
-    pub counts: Vec<Counts>,
+    pub features: Vec<Id>,
     pub pieces: Vec<Piece>,
     pub zones: Vec<Sided>,
+}
+
+/// The number of a piece that stands so many places later. The error: out of memory, as for 2^32 pieces.
+fn later(number: u32, from: usize) -> Result<u32, AllocError>
+    ensures { IfOk result (λ k. k ≡ from + number) }
+{
+    short_id((from as Id).saturating_add(number as Id))
+}
+
+/// Adds zones whose pieces stand so many places later.
+fn add_moved(zones: &mut Vec<Sided>, more: &[Sided], from: usize) -> Result<(), AllocError>
+    ensures { OnOk result (zones.new.items ≡ zones.old.items ++ map (moved_by from) more.now) }
+{
+    for zone in more {
+        zones.push(Sided {
+            zone: zone.zone,
+            first: later(zone.first, from)?,
+            second: later(zone.second, from)?,
+        })?;
+    }
+    Ok(())
 }
 
 impl Pile {
     /// A pile of no feature, with room for so many zones, and for twice as many pieces.
     pub fn with_room(alloc: Global, zones: usize) -> Result<Pile, AllocError>
-        ensures { IfOk result (IsPileOf []) }
+        ensures { IfOk result IsEmptyPile }
     {
         Ok(Pile {
-            counts: Vec::new(alloc),
+            features: Vec::new(alloc),
             pieces: Vec::with_capacity(alloc, zones.saturating_mul(2))?,
             zones: Vec::with_capacity(alloc, zones)?,
         })
@@ -40,53 +50,15 @@ impl Pile {
 
     /// Adds what was made of a feature.
     pub fn add(&mut self, made: Made) -> Result<(), AllocError>
-        ensures { OnOk result ((ms : List MadeOf) → IsPileOf ms self.old → IsPileOf (ms ++ made ∷ []) self.new) }
+        ensures { OnOk result (AddsMade made self.old self.new) }
     {
         let Made {
             feature,
             mut pieces,
-            mut zones,
-        } = made;
-        self.counts.push(Counts {
-            feature,
-            pieces: pieces.len(),
-            zones: zones.len(),
-        })?;
-        self.pieces.append(&mut pieces)?;
-        self.zones.append(&mut zones)?;
-        Ok(())
-    }
-
-    /// The feature that was added last.
-    pub fn last(&self) -> Option<Id>
-        ensures { IfSome result (IsLast self.now.counts.items) }
-    {
-        let count = self.counts.len();
-        if count == 0 {
-            return None;
-        }
-        Some(self.counts[count - 1].feature)
-    }
-
-    /// Takes what was made of the feature that was added last.
-    pub fn take(&mut self) -> Result<Option<Made>, AllocError>
-        ensures made { IfOk result (λ o. (features : List (List RectOf)) (zones : List ZoneOf) → AreMade features zones self.old → AreMade features zones self.new × IfSome o (IsMade features zones)) }
-        ensures last { IfOk result (λ o. IfSome o (λ m. IsLast self.old.counts.items m.feature)) }
-    {
-        let Some(own) = self.counts.pop() else {
-            return Ok(None);
-        };
-        let other_pieces = self.pieces.len().saturating_sub(own.pieces);
-        let pieces = self.pieces.split_off(other_pieces)?;
-        let other_zones = self.zones.len().saturating_sub(own.zones);
-        let zones = self.zones.split_off(other_zones)?;
-        give_back(&mut self.counts);
-        give_back(&mut self.pieces);
-        give_back(&mut self.zones);
-        Ok(Some(Made {
-            feature: own.feature,
-            pieces,
             zones,
-        }))
+        } = made;
+        add_moved(&mut self.zones, &zones, self.pieces.len())?;
+        self.features.push(feature)?;
+        self.pieces.append(&mut pieces)
     }
 }

@@ -1,5 +1,5 @@
 //! What zones leave of features.
-ghost use Rattle.std.specs.Prelude.{◌≡◌, ℕ, ◌<◌, ◌++◌, ◌∷◌, [], List, IfOk, OnOk, length, map, slice_index_or};
+ghost use Rattle.std.specs.Prelude.{◌≡◌, ◌<◌, ◌↔◌, List, IfOk, IsTrue, OnOk, length, map};
 ghost use Rattle.std.specs.List.{All, AllZip};
 ghost use Rattle.std.specs.List.Sorted.{IsPermutation};
 ghost use Rattle.dpl_spec_split.specs.declared.Rect.{Rect as RectOf};
@@ -8,14 +8,14 @@ ghost use Rattle.dpl_piece.specs.Cutting.{AreFeatures, AreTheirZones};
 ghost use Rattle.dpl_sides.specs.Corners.{StandBeside};
 ghost use Rattle.dpl_sides.specs.declared.standing.Side.TheVariants.{Before, After};
 ghost use Rattle.dpl_sides.specs.Sided.{numbers_in, sides_in};
-ghost use Rattle.dpl_piece.specs.Made.{AreLeft, AreMade};
+ghost use Rattle.dpl_piece.specs.Made.{AreAllMade, AreLeft};
 ghost use Rattle.dpl_sides.specs.Noted.{AreMoved, IsSortedWith};
 ghost use Rattle.dpl_sides.specs.Pieces.{least_key, rect_at, parts_in, RiseByLeast};
-ghost use Rattle.dpl_piece.specs.Adding.{AddsFeature, AddsMade, IsUncut};
-ghost use Rattle.dpl_piece.specs.Pieces.{AddsPieces, AreCut, AreZonesFrom, AreZonesOf};
+ghost use Rattle.dpl_piece.specs.Adding.{AddsFeature, AddsNext, AddsPile, IsBegun, IsMadeAt, IsUncut};
+ghost use Rattle.dpl_piece.specs.Pieces.{AddsPieces, AreCut, AreZonesFrom};
 ghost use Rattle.dpl_piece.specs.Wholes.{AreWholes, KeepsWhole};
 
-use crate::made::{Made, add_parts, broken, taken};
+use crate::made::{add_parts, broken};
 use crate::own::{holes_at, own_count};
 use crate::piece::{CutUp, Whole};
 use crate::pile::Pile;
@@ -70,15 +70,16 @@ fn add_pieces(
     Ok(())
 }
 
-/// The pieces of the features so far, those of these features that were cut, and the pieces noted for the zones.
+/// The pieces so far, the features so far that were cut, the pieces noted for the zones, and the features whose pieces workers made, which come first.
 #[derive(Drop)]
 struct Cutting {
     pieces: Vec<Piece>,
     wholes: Vec<Whole>,
     noted: Noted,
+    made: Vec<Id>,
 }
 
-/// Notes the pieces on the two sides of a feature's zones, of which the first is number `from`.
+/// Notes the pieces on the two sides of some features' zones, of which the first is number `from`.
 fn note_made(noted: &mut Noted, zones: &[Sided], from: usize) -> Result<(), AllocError>
     requires firsts { All (λ j. j < length noted.old.firsts.items) (numbers_in zones.now) }
     requires seconds { All (λ j. j < length noted.old.seconds.items) (numbers_in zones.now) }
@@ -99,22 +100,41 @@ impl Cutting {
             pieces: Vec::with_capacity(alloc, room)?,
             wholes: Vec::new(alloc),
             noted,
+            made: Vec::new(alloc),
         })
     }
 
-    /// Adds the pieces of a feature that zones broke, as they were made before, and notes those on the two sides of its zones. The feature is kept.
-    fn add_made(&mut self, feature: Slabs, mut made: Made) -> Result<(), AllocError>
-        requires firsts { All (λ j. j < length self.old.noted.firsts.items) (numbers_in made.zones.items) }
-        requires seconds { All (λ j. j < length self.old.noted.seconds.items) (numbers_in made.zones.items) }
-        ensures { OnOk result (AddsMade feature made self.old self.new) }
+    /// Adds the pieces of the features that a worker cut, and notes those on the two sides of their zones.
+    fn add_pile(&mut self, pile: Pile) -> Result<(), AllocError>
+        requires firsts { All (λ j. j < length self.old.noted.firsts.items) (numbers_in pile.zones.items) }
+        requires seconds { All (λ j. j < length self.old.noted.seconds.items) (numbers_in pile.zones.items) }
+        ensures { OnOk result (AddsPile pile self.old self.new) }
     {
-        note_made(&mut self.noted, &made.zones, self.pieces.len())?;
-        self.pieces.append(&mut made.pieces)?;
-        self.wholes.push(Whole {
-            feature: made.feature,
-            set: feature,
-        })?;
-        Ok(())
+        let Pile {
+            mut features,
+            mut pieces,
+            zones,
+        } = pile;
+        note_made(&mut self.noted, &zones, self.pieces.len())?;
+        self.pieces.append(&mut pieces)?;
+        self.made.append(&mut features)
+    }
+
+    /// Begins with the pieces of the features that workers cut, with room for so many pieces in all.
+    fn begun(
+        alloc: Global,
+        piles: Vec<Pile>,
+        room: usize,
+        zones: &[Zone],
+    ) -> Result<Cutting, AllocError>
+        requires { All (λ b. All (λ j. j < length zones.now) (numbers_in b.zones.items)) piles.items }
+        ensures { IfOk result (λ c. (features : List (List RectOf)) → AreFeatures features → AreTheirZones features zones.now → AreAllMade features zones.now piles.items → IsBegun features zones.now c) }
+    {
+        let mut cutting = Cutting::new(alloc, room, zones.len())?;
+        for pile in piles {
+            cutting.add_pile(pile)?;
+        }
+        Ok(cutting)
     }
 
     /// Adds the pieces into which its own zones break a feature, and notes those on the two sides of these.
@@ -138,7 +158,17 @@ impl Cutting {
         note_sides(&mut self.noted, zones, own, &self.pieces, from)
     }
 
-    /// Adds the pieces of a feature with these zones: those that were made before, or else those into which it is cut now.
+    /// Whether workers made the pieces of this feature, and it stands at this place among those.
+    fn is_made_at(&self, place: usize, number: Id) -> bool
+        ensures { IsTrue result ↔ IsMadeAt self.now.made.items place number }
+    {
+        match self.made.get(place) {
+            Some(&made) => made == number,
+            None => false,
+        }
+    }
+
+    /// Adds the pieces into which its own zones break a feature, or keeps the feature alone where workers made them, and it stands at this place among those. Returns the place of the next.
     fn add(
         &mut self,
         alloc: Global,
@@ -146,20 +176,23 @@ impl Cutting {
         number: Id,
         zones: &[Zone],
         own: &[u32],
-        made: &mut Vec<Pile>,
-    ) -> Result<(), AllocError>
-        requires own { AreZonesOf zones.now number own.now }
+        place: usize,
+    ) -> Result<usize, AllocError>
+        requires known { All (λ j. j < length zones.now) own.now }
         requires within { AreRectsWithin farthest (map (rect_at zones.now) own.now) }
-        requires made { (features : List (List RectOf)) × (slice_index_or features number [] ≡ feature) × All (AreMade features zones.now) made.old.items }
         requires firsts { length self.old.noted.firsts.items ≡ length zones.now }
         requires seconds { length self.old.noted.seconds.items ≡ length zones.now }
-        ensures adds { OnOk result (AddsFeature feature zones.now own.now number self.old self.new) }
-        ensures made { OnOk result ((features : List (List RectOf)) → All (AreMade features zones.now) made.old.items → All (AreMade features zones.now) made.new.items) }
+        ensures { IfOk result (λ next. AddsNext feature zones.now own.now number place next self.old self.new) }
     {
-        match taken(made, number)? {
-            Some(made) => self.add_made(feature, made),
-            None => self.add_cut(alloc, feature, number, zones, own),
+        if self.is_made_at(place, number) {
+            self.wholes.push(Whole {
+                feature: number,
+                set: feature,
+            })?;
+            return Ok(place + 1);
         }
+        self.add_cut(alloc, feature, number, zones, own)?;
+        Ok(place)
     }
 
     /// The pieces, sorted and numbered, those on the two sides of each zone, and the features that were cut.
@@ -174,6 +207,7 @@ impl Cutting {
             mut pieces,
             wholes,
             noted,
+            ..
         } = self;
         let sides = sort_with_sides(alloc, &mut pieces, noted)?;
         Ok(CutUp {
@@ -184,30 +218,31 @@ impl Cutting {
     }
 }
 
-/// The components of what the zones leave of the features, each with the feature that it lies in, and those on the two sides of each zone. A feature without a zone is moved, as it is; any other is cut by its own zones, feature by feature, where that wasn't done before. The numbers of the zones are given by feature.
+/// The components of what the zones leave of the features, each with the feature that it lies in, and those on the two sides of each zone. A feature without a zone is moved, as it is; any other is cut by its own zones, feature by feature, where workers didn't do that before. The numbers of the zones are given by feature.
 pub fn pieces_of(
     alloc: Global,
     features: Vec<Slabs>,
     zones: &[Zone],
     sorted: Vec<u32>,
-    mut made: Vec<Pile>,
+    made: Vec<Pile>,
 ) -> Result<CutUp, AllocError>
     requires features { AreFeatures features.items }
     requires zones { AreTheirZones features.items zones.now }
     requires within { All (AreRectsWithin farthest) features.items }
     requires sorted { AreZonesFrom zones.now 0 sorted.items }
-    requires made { All (AreMade features.items zones.now) made.items }
+    requires made { AreAllMade features.items zones.now made.items }
     ensures cut { IfOk result (λ v. AreCut features.items zones.now v.pieces.items) }
     ensures wholes { IfOk result (λ v. AreWholes features.items zones.now v.wholes.items) }
     ensures sides { IfOk result (λ v. AllZip (StandBeside (parts_in v.pieces.items)) zones.now v.sides.items) }
 {
     let room = features.len().saturating_add(zones.len());
-    let mut cutting = Cutting::new(alloc, room, zones.len())?;
+    let mut cutting = Cutting::begun(alloc, made, room, zones)?;
     let mut rest = sorted.as_slice();
+    let mut place = 0;
     let mut number = 0;
     for feature in features {
         let (own, others) = rest.split_at(own_count(zones, rest, number));
-        cutting.add(alloc, feature, number, zones, own, &mut made)?;
+        place = cutting.add(alloc, feature, number, zones, own, place)?;
         rest = others;
         number += 1;
     }

@@ -1,5 +1,4 @@
-use Rattle.std.proofs.lemmas.List.Elements.{All-nil}
-use Rattle.dpl_piece.specs.Made.{AreMade}
+use Rattle.dpl_piece.proofs.Piles.{none-made}
 use Rattle.std.proofs.lemmas.Result.{IfOk-from_err}
 use Rattle.dpl_piece.proofs.cut.bare_pieces.Goals as goal
 
@@ -31,4 +30,4 @@ pub bare_of-requires-clause-sorted : goal.bare_of-requires-clause-sorted
 bare_of-requires-clause-sorted c = rw c.deref.ensures.value at c.in_ok-sorted.ensures
 
 pub bare_of-requires-clause-made : goal.bare_of-requires-clause-made
-bare_of-requires-clause-made c = rw c.new.ensures.items (All-nil (AreMade c.args.features c.args.zones.items))
+bare_of-requires-clause-made c = rw c.new.ensures.items (none-made c.args.features c.args.zones.items)

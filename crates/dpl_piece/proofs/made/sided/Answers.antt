@@ -5,7 +5,7 @@ use Rattle.dpl_sides.specs.declared.standing.Side.TheVariants.{Before, After}
 use Rattle.dpl_sides.specs.Noted.{StandsAfterFrom, StandsBeforeFrom}
 use Rattle.dpl_sides.specs.Pieces.{parts_in, zone_at}
 use Rattle.dpl_sides.specs.Sided.{sides_in}
-use Rattle.dpl_piece.proofs.Moved.{local-known, sides-of}
+use Rattle.dpl_piece.proofs.MadeLaws.{local-known, sides-of}
 use Rattle.dpl_piece.proofs.made.sided.Goals as goal
 
 pub sides_of-requires : goal.sides_of-requires

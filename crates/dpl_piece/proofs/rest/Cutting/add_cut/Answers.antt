@@ -1,4 +1,4 @@
-use Rattle.std.proofs.Common.{◌≡◌, ◌∙◌, length, arith}
+use Rattle.std.proofs.Common.{◌≡◌, ◌∙◌, length, refl, arith}
 use Rattle.std.proofs.lemmas.Result.{IfOk-from_err}
 use Rattle.dpl_piece.proofs.Sides.{adds-longer}
 use Rattle.dpl_piece.proofs.MadeLaws.{both-ok}
@@ -16,6 +16,7 @@ returns c =
     (λ firsts seconds. record {
       pieces = c.in_ok-add_pieces.ensures.adds _ c.in_ok-parts.ensures;
       wholes = c.in_ok-add_pieces.ensures.keeps _ c.in_ok-parts.ensures;
+      made = refl;
       firsts = firsts;
       seconds = seconds;
     })

@@ -6,6 +6,7 @@ returns c =
     record {
       pieces = c.in_ok-with_capacity.ensures.items;
       wholes = c.new-2.ensures.items;
+      made = c.new-3.ensures.items;
       firsts = c.in_ok-noted.ensures.firsts;
       seconds = c.in_ok-noted.ensures.seconds;
     }
