@@ -29,7 +29,8 @@ use Rattle.dpl_cert.specs.declared.cert.StitchLine.{StitchLine}
 use Rattle.dpl_cert.specs.declared.cert.PlaceLine.{PlaceLine}
 use Rattle.dpl_cert.specs.declared.cert.NearLine.{NearLine}
 use Rattle.dpl_cert.specs.Grammar.{IsCycleLength}
-use Rattle.dpl_answer.specs.Anchors.{AreLettersOf, ColoursBy}
+use Rattle.dpl_orient.specs.Fewer.{ColoursBy}
+use Rattle.dpl_answer.specs.Anchors.{AreLettersOf}
 use Rattle.dpl_answer.specs.Flat.{AreLinks, IsClashOfCut, IsPaintedCut, Painted, place_by}
 use Rattle.dpl_law_verdict.specs.Own.{AreGainsBy, head_of, piece_line, stitch_line}
 use Rattle.dpl_answer.proofs.Reducing.{as_many, coloured-in}

@@ -1,5 +1,5 @@
 -- Where fewer stitches are asked for, and where they aren't.
-use Rattle.std.proofs.Common.{◌≡◌, ◌∙◌, ℕ, Bool, true, false, List, length, sym}
+use Rattle.std.proofs.Common.{◌≡◌, ◌∙◌, ℕ, Bool, true, false, List, length}
 use Rattle.std.specs.Prelude.{Option, None}
 use Rattle.dpl_spec_split.specs.declared.Spacing.{Spacing}
 use Rattle.dpl_spec_split.specs.Graphs.{graph_of}
@@ -9,13 +9,10 @@ use Rattle.dpl_spec_split.specs.Marks.{Marks}
 use Rattle.dpl_spec_fewer.specs.Masks.{AreColoursBy, fixed_by}
 use Rattle.dpl_spec_fewer.proofs.Ends.{length-last}
 use Rattle.dpl_stars.specs.declared.joined.Joined.{Joined}
-use Rattle.dpl_stars.specs.declared.joined.Joined.TheVariants.{Stars, Odd}
 use Rattle.dpl_stars.specs.Sums.{Sums}
-use Rattle.dpl_orient.specs.Fewer.{AreLed, FewerOfWhatSums}
-use Rattle.dpl_orient.specs.Oriented.{AreColoursOf, ColoursWhatSums}
+use Rattle.dpl_orient.specs.Fewer.{ColoursBy}
 use Rattle.dpl_cert.specs.declared.cert.Gain.{Gain}
 use Rattle.dpl_law_verdict.specs.Own.{AreGainsBy}
-use Rattle.dpl_answer.specs.Anchors.{ColoursBy}
 
 -- ---- gains
 
@@ -30,27 +27,6 @@ gains-unasked false marks spacing cut letters e = tt
 gains-unasked true marks spacing cut letters e = absurd (let no : ⊥ = cc in no)
 
 -- ---- colours
-
-pub reduced : (reduce : Bool) (fixed : Option ℕ) (joined : Joined) (n : ℕ) (sides : List (ℕ × ℕ)) (colours : List Bool) → reduce ≡ true
-    → FewerOfWhatSums joined n sides fixed colours → ColoursBy reduce fixed joined n sides colours
-reduced true fixed joined n sides colours e h = h
-reduced false fixed joined n sides colours e h = absurd (let no : ⊥ = cc in no)
-
-pub unreduced : (reduce : Bool) (fixed : Option ℕ) (joined : Joined) (n : ℕ) (sides : List (ℕ × ℕ)) (colours : List Bool) → reduce ≡ false
-    → ColoursWhatSums joined n sides colours → ColoursBy reduce fixed joined n sides colours
-unreduced false fixed joined n sides colours e h = h
-unreduced true fixed joined n sides colours e h = absurd (let no : ⊥ = cc in no)
-
--- there are as many colours as vertices, plain ones or those that they lead to
-pub many-first : (joined : Joined) (n : ℕ) (sides : List (ℕ × ℕ)) (colours : List Bool) → AreColoursOf joined n sides colours → length colours ≡ n
-many-first (Stars rows) n sides colours h = h.coloured.each ∙ h.rooted.as_many_roots
-many-first Odd n sides colours h = absurd h
-
-pub many-last : (joined : Joined) (n : ℕ) (sides : List (ℕ × ℕ)) (fixed : Option ℕ) (first last : List Bool) → AreColoursOf joined n sides first
-    → AreLed joined n sides fixed first last → length last ≡ n
-many-last (Stars rows) n sides fixed first last h led =
-    length-last led.roots fixed sides first last (many-first (Stars rows) n sides first h ∙ sym led.rooted.as_many_roots) led.led ∙ led.rooted.as_many_roots
-many-last Odd n sides fixed first last h led = absurd h
 
 -- the colours of the graph of the edges that are summed up
 pub record AreColoursIn (fewer : Bool) (marks : Option Marks) (edges : List (ℕ × ℕ)) (n : ℕ) (sides : List (ℕ × ℕ)) (colours : List Bool) : Type 0 where

@@ -9,8 +9,7 @@ use Rattle.dpl_spec_split.specs.Graphs.{AreEdges}
 use Rattle.dpl_spec_split.specs.Marks.{HasSome, MarkEdge, Marks, letters_by, sides_by, vertex}
 use Rattle.dpl_stars.specs.declared.joined.Joined.{Joined}
 use Rattle.dpl_spec_fewer.specs.Masks.{fixed_by}
-use Rattle.dpl_orient.specs.Oriented.{ColoursWhatSums}
-use Rattle.dpl_orient.specs.Fewer.{FewerOfWhatSums}
+use Rattle.dpl_orient.specs.Fewer.{ColoursBy}
 use Rattle.dpl_nearest.specs.Nearest.{IsNearestPair}
 use Rattle.dpl_cert.specs.declared.cert.PlaceLine.{PlaceLine}
 use Rattle.dpl_cert.specs.declared.cert.PlaceLine.TheVariants.{Anchor as AnchorLine}
@@ -46,12 +45,7 @@ abbrev pub with_marks : Option (List (ℕ × ℕ)) → List (ℕ × ℕ) → Lis
 with_marks None edges = edges
 with_marks (Some marked) edges = marked ++ moved edges
 
--- colours of so many vertices by what sums up the graph; where fewer stitches are asked for, what those lead to
-abbrev pub ColoursBy : Bool → Option ℕ → Joined → ℕ → List (ℕ × ℕ) → List Bool → Type 0
-ColoursBy false fixed joined n sides colours = ColoursWhatSums joined n sides colours
-ColoursBy true fixed joined n sides colours = FewerOfWhatSums joined n sides fixed colours
-
--- the letters of so many pieces, from such colours of the vertices
+-- the letters of so many pieces, from colours of the vertices by what sums up the graph; where fewer stitches are asked for, from those with fewer
 abbrev pub AreLettersOf : Bool → Option Marks → Joined → ℕ → List (ℕ × ℕ) → List Bool → Type 0
 AreLettersOf fewer marks joined count sides letters =
     (colours : List Bool) × ColoursBy fewer (fixed_by marks) joined (vertex marks count) (sides_by marks sides) colours × (letters ≡ letters_by marks colours)

@@ -4,6 +4,5 @@ pub mod Conflicts
 pub mod Flat
 pub mod Cycles
 pub mod Lines
-pub mod Roots
 pub mod View
 pub mod Many

@@ -1,15 +1,15 @@
 //! The colours of pieces, from those of vertices.
-ghost use Rattle.std.specs.Prelude.{◌≡◌, ◌+◌, IfOk, length};
+ghost use Rattle.std.specs.Prelude.{◌≡◌, ◌+◌, IfOk};
 ghost use Rattle.std.specs.Option.{option_copied};
 ghost use Rattle.dpl_spec_split.specs.Marks.{vertex};
 ghost use Rattle.dpl_orient.specs.Oriented.{IsEvenBelow};
 ghost use Rattle.dpl_orient.specs.Rooted.{AreSidesBelow};
-ghost use Rattle.dpl_answer.specs.Anchors.{AreAnchoredLetters, AreLettersOf, ColoursBy, marks_in};
+ghost use Rattle.dpl_answer.specs.Anchors.{AreAnchoredLetters, AreLettersOf, marks_in};
 
 use crate::marks::MarkSets;
 use dpl_base::Id;
 use dpl_edges::shifted;
-use dpl_orient::{Colours, fewer, orient};
+use dpl_orient::{Colours, colours_by};
 use dpl_stars::Joined;
 use std::alloc::{AllocError, Global};
 
@@ -41,33 +41,12 @@ pub(crate) fn piece_colours(
     ensures { IfOk result (AreLettersOf reduce (marks_in (option_copied marks.entry)) joined.now count sides.now) }
 {
     match marks {
-        None => vertex_colours(alloc, count, sides, joined, None, reduce),
+        None => colours_by(alloc, count, sides, joined, None, reduce),
         Some(_) => anchored_colours(alloc, count, sides, joined, reduce),
     }
 }
 
-/// The masks of so many vertices. With `reduce` what they lead to where single components are flipped, but that of `fixed`.
-fn vertex_colours(
-    alloc: Global,
-    n: Id,
-    sides: &[(Id, Id)],
-    joined: &Joined,
-    fixed: Option<Id>,
-    reduce: bool,
-) -> Result<Colours, AllocError>
-    requires even { IsEvenBelow n joined.now }
-    requires sides { AreSidesBelow n sides.now }
-    ensures colours { IfOk result (λ colours. ColoursBy reduce fixed joined.now n sides.now colours) }
-    ensures each { IfOk result (λ colours. length colours ≡ n) }
-{
-    let first = orient(alloc, n, sides, joined)?;
-    if reduce {
-        return fewer(alloc, n, sides, joined, &first, fixed);
-    }
-    Ok(first)
-}
-
-/// The same, where marks are asked for.
+/// The same, where marks are asked for: the masks of so many pieces, from those of all vertices.
 fn anchored_colours(
     alloc: Global,
     count: Id,
@@ -83,7 +62,7 @@ fn anchored_colours(
         return Err(AllocError);
     };
     let moved = shifted(alloc, sides)?;
-    let colours = vertex_colours(alloc, vertices, &moved, joined, Some(0), reduce)?;
+    let colours = colours_by(alloc, vertices, &moved, joined, Some(0), reduce)?;
     drop(moved);
     let masks = colours.items();
     let mut letters = Vec::with_capacity(alloc, masks.len())?;

@@ -2,7 +2,6 @@
 ghost use Rattle.std.specs.Prelude.{◌≤◌, ◌≡◌, ℕ, IfOk, IsTrue, Option, length};
 ghost use Rattle.dpl_spec_split.specs.Graphs.{AreEdges, graph_of};
 ghost use Rattle.dpl_spec_split.specs.Summary.{HasOddCycle};
-ghost use Rattle.dpl_spec_split.specs.Pieces.{Conflict};
 ghost use Rattle.std.specs.Option.{option_copied, option_map};
 ghost use Rattle.dpl_spec_split.specs.Marks.{Marks, graph, vertex};
 ghost use Rattle.dpl_stars.specs.Levels.{AreEdgesBelow};
@@ -17,7 +16,8 @@ ghost use Rattle.dpl_answer.specs.View.{AreAmong, AreConflictsOf};
 
 use crate::job::{EdgeJob, joined_conflicts};
 use crate::marks::{MarkSets, edges_of_marks, joined_with};
-use dpl_base::{Edge, Rect, Spacing, round_one};
+use dpl_base::{Edge, Spacing};
+use dpl_crowd::{are_many, slab_count};
 use dpl_cut::BareLayerCut;
 use dpl_edges::{all_conflicts_by, all_edges};
 use dpl_piece::BarePieces;
@@ -28,9 +28,6 @@ use dpl_tile::{plan, side_for};
 use std::alloc::{AllocError, Global};
 use std::sync::Wait;
 use std::thread::Threads;
-
-/// How many slabs a square with sides of the rule has on average where they are dense, and how many features where they are crowded.
-const DENSE: u64 = 64;
 
 /// Up to how many slabs the pieces of a layer may have for tiles to be shared. Of more, all conflicts are listed at once, which takes less time than to list those of many tiles and to join what was found.
 const MOST_BY_TILES: u64 = 4_096;
@@ -114,58 +111,7 @@ pub(crate) fn are_listed_at_once(parts: &[Slabs], rule: u32, workers: u32) -> bo
     count > MOST_BY_TILES || are_many(parts, rule, count)
 }
 
-/// How many slabs the parts have together; where that is more than `most`, some number above `most`.
-fn slab_count(parts: &[Slabs], most: u64) -> u64 {
-    let mut count: u64 = 0;
-    for part in parts {
-        count = count.saturating_add(part.rects().len() as u64);
-        if count > most {
-            return count;
-        }
-    }
-    count
-}
-
-/// Whether a square with sides of the rule has many of `count` things, on average over the rectangle round all parts. Once the rectangle round some of them is too large for that, the others aren't looked at.
-pub(crate) fn are_many(parts: &[Slabs], rule: u32, count: u64) -> bool {
-    let mut around = None;
-    for part in parts {
-        for r in part.rects() {
-            around = round_one(around, r);
-        }
-        if let Some(around) = &around
-            && !is_dense(around, rule, count)
-        {
-            return false;
-        }
-    }
-    around.is_some()
-}
-
-/// Whether a square with sides of the rule has many of `count` things, on average over this rectangle.
-fn is_dense(around: &Rect, rule: u32, count: u64) -> bool {
-    let side = rule.max(1) as u64;
-    let columns = around.x0.abs_diff(around.x1) as u64 / side + 1;
-    let rows = around.y0.abs_diff(around.y1) as u64 / side + 1;
-    columns.saturating_mul(rows).saturating_mul(DENSE) < count
-}
-
-/// All conflicts of pieces, found by so many workers.
-fn conflicts_at_once<R: Threads + Sync>(
-    rt: &R,
-    alloc: Global,
-    pieces: &BarePieces,
-    spacing: Spacing,
-    workers: u32,
-) -> Result<Vec<Edge>, AllocError>
-    requires corner { spacing.corner ≤ spacing.rule }
-    requires workers { 1 ≤ workers }
-    ensures { IfOk result (λ v. AreEdges (Conflict spacing pieces.now.parts pieces.now.owners) v.items) }
-{
-    all_conflicts_by(rt, alloc, pieces.parts(), pieces.owner(), spacing, workers)
-}
-
-/// All edges of the graph of pieces, with anchors where marks are asked for.
+/// All edges of the graph of pieces, with anchors where marks are asked for. So many workers find the conflicts.
 fn edges_at_once<R: Threads + Sync>(
     rt: &R,
     alloc: Global,
@@ -178,7 +124,7 @@ fn edges_at_once<R: Threads + Sync>(
     requires workers { 1 ≤ workers }
     ensures { IfOk result (λ v. AreEdges (graph (marks_in (option_copied marks.entry)) spacing pieces.now.parts pieces.now.owners) v.items) }
 {
-    let edges = conflicts_at_once(rt, alloc, pieces, spacing, workers)?;
+    let edges = all_conflicts_by(rt, alloc, pieces.parts(), pieces.owner(), spacing, workers)?;
     let marked = edges_of_marks(alloc, pieces.parts(), marks)?;
     joined_with(alloc, edges, &marked)
 }

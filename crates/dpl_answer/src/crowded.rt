@@ -11,11 +11,10 @@ ghost use Rattle.dpl_answer.specs.Flat.{Fits, IsFlatCut, IsWithin};
 ghost use Rattle.dpl_answer.specs.View.{flat_view};
 
 use crate::answer::clash_by;
-use crate::conflicts::are_many;
 use crate::decomposed::Decomposed;
 use crate::marks::MarkSets;
 use dpl_base::{Id, Spacing};
-use dpl_crowd::Crowd;
+use dpl_crowd::{Crowd, are_many};
 use dpl_cut::BareLayerCut;
 use std::alloc::{AllocError, Global};
 

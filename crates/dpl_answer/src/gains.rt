@@ -1,9 +1,8 @@
 //! The gains that are left where fewer stitches are asked for.
-ghost use Rattle.std.specs.Prelude.{◌≡◌, ◌≤◌, List, IfOk, length, map, true};
+ghost use Rattle.std.specs.Prelude.{◌≡◌, ◌≤◌, List, IfOk, length};
 ghost use Rattle.std.specs.Option.{option_copied};
 ghost use Rattle.dpl_spec_split.specs.declared.Rect.{Rect};
 ghost use Rattle.dpl_spec_split.specs.Marks.{graph, vertex};
-ghost use Rattle.dpl_orient.specs.Masks.{is_second};
 ghost use Rattle.dpl_orient.specs.Oriented.{IsEvenBelow};
 ghost use Rattle.dpl_piece.specs.View.{cut_view};
 ghost use Rattle.dpl_spec_verdict.specs.Gains.{AreGainsOf};
@@ -11,58 +10,38 @@ ghost use Rattle.dpl_law_verdict.specs.Own.{AreGainsBy};
 ghost use Rattle.dpl_answer.specs.Anchors.{marks_in};
 ghost use Rattle.dpl_answer.specs.Conflicts.{SumsGraph};
 
-use crate::lines::is_b;
 use crate::marks::MarkSets;
-use crate::roots::roots_in;
 use dpl_base::{Id, Listed, Spacing};
 use dpl_cert::Gain;
 use dpl_gains::{gains_by_roots, gains_of};
-use dpl_orient::Mask;
+use dpl_orient::{Colours, roots_below};
 use dpl_piece::Pieces;
 use dpl_slabs::Slabs;
 use dpl_stars::Joined;
 use std::alloc::{AllocError, Global};
 
-/// The gains of the components of pieces that are on these masks, where fewer stitches are asked for; `joined` sums up the graph of the pieces.
+/// The gains of the components of pieces that have these colours, where fewer stitches are asked for; `joined` sums up the graph of the pieces.
 ///
 /// The error: out of memory.
 pub(crate) fn gains_by(
     alloc: Global,
     pieces: &Pieces,
-    masks: &[Mask],
+    colours: &Colours,
     joined: &Joined,
     marks: Option<&MarkSets>,
     spacing: Spacing,
     fewer: bool,
 ) -> Result<Option<Listed<Gain>>, AllocError>
     requires corner { spacing.corner ≤ spacing.rule }
-    requires each { length masks.now ≡ length pieces.now.parts }
+    requires each { length colours.now ≡ length pieces.now.parts }
     requires sums { SumsGraph (graph (marks_in (option_copied marks)) spacing pieces.now.parts pieces.now.owners) joined.now }
     requires even { IsEvenBelow (vertex (marks_in (option_copied marks)) (length pieces.now.parts)) joined.now }
-    ensures { IfOk result (λ gains. (features : List (List Rect)) → AreGainsBy fewer (marks_in (option_copied marks.entry)) spacing (cut_view features pieces.now) (map is_second masks.now) gains) }
+    ensures { IfOk result (λ gains. (features : List (List Rect)) → AreGainsBy fewer (marks_in (option_copied marks.entry)) spacing (cut_view features pieces.now) colours.now gains) }
 {
-    if fewer {
-        return gains_left(alloc, pieces, masks, joined, marks, spacing);
+    if !fewer {
+        return Ok(None);
     }
-    Ok(None)
-}
-
-/// The gains of the components of pieces that are on these masks.
-fn gains_left(
-    alloc: Global,
-    pieces: &Pieces,
-    masks: &[Mask],
-    joined: &Joined,
-    marks: Option<&MarkSets>,
-    spacing: Spacing,
-) -> Result<Option<Listed<Gain>>, AllocError>
-    requires corner { spacing.corner ≤ spacing.rule }
-    requires each { length masks.now ≡ length pieces.now.parts }
-    requires sums { SumsGraph (graph (marks_in (option_copied marks)) spacing pieces.now.parts pieces.now.owners) joined.now }
-    requires even { IsEvenBelow (vertex (marks_in (option_copied marks)) (length pieces.now.parts)) joined.now }
-    ensures { IfOk result (λ gains. (features : List (List Rect)) → AreGainsBy true (marks_in (option_copied marks.entry)) spacing (cut_view features pieces.now) (map is_second masks.now) gains) }
-{
-    let letters = letters_of(alloc, masks)?;
+    let letters = colours.letters(alloc)?;
     let gains = gains_among(alloc, pieces, &letters, joined, marks, spacing)?;
     Ok(Some(Listed::of(gains)))
 }
@@ -85,7 +64,7 @@ fn gains_among(
     match marks {
         None => {
             let count = pieces.parts().items().len() as Id;
-            let roots = roots_in(alloc, count, joined)?;
+            let roots = roots_below(alloc, count, joined)?;
             let no_marks = Slabs::empty(alloc);
             gains_by_roots(alloc, pieces, &roots, letters, &no_marks)
         }
@@ -94,18 +73,4 @@ fn gains_among(
             gains_of(alloc, pieces, letters, &marked, spacing)
         }
     }
-}
-
-/// Whether a piece is on mask B.
-fn is_on_b(mask: &Mask) -> bool
-    ensures { result ≡ is_second mask.now }
-{
-    is_b(*mask)
-}
-
-/// For each piece whether it is on mask B.
-fn letters_of(alloc: Global, masks: &[Mask]) -> Result<Vec<bool>, AllocError>
-    ensures { IfOk result (λ v. v.items ≡ map is_second masks.now) }
-{
-    masks.iter().map(is_on_b).collect(alloc)
 }

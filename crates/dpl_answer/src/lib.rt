@@ -14,7 +14,6 @@ mod many;
 mod marks;
 mod masks_told;
 mod near;
-mod roots;
 mod vertices;
 
 pub use answer::answer_of;

@@ -14,7 +14,7 @@ use dpl_base::{Id, Listed, Spacing, Zone};
 use dpl_cert::{Head, Key, PieceLine, PlaceLine, StitchLine};
 use dpl_cut::LayerCut;
 use dpl_masks::stitches;
-use dpl_orient::Mask;
+use dpl_orient::{Mask, is_second};
 use dpl_piece::Pieces;
 use std::alloc::{AllocError, Global};
 
@@ -62,21 +62,11 @@ fn piece_lines(alloc: Global, masks: &[Mask], pieces: &Pieces) -> Result<Vec<Pie
     let mut lines = Vec::with_capacity(alloc, masks.len())?;
     for (i, mask) in masks.iter().enumerate() {
         lines.push(PieceLine {
-            b: is_b(*mask),
+            b: is_second(*mask),
             key: Key::of(pieces.key(i)),
         })?;
     }
     Ok(lines)
-}
-
-/// Whether a piece is on the second mask.
-pub(crate) fn is_b(mask: Mask) -> bool
-    ensures { result ≡ is_second mask }
-{
-    match mask {
-        Mask::A => false,
-        Mask::B => true,
-    }
 }
 
 /// A line for each stitch: its rectangle and the pieces on its sides.

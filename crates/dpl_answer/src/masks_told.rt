@@ -48,15 +48,7 @@ pub(crate) fn masks_told(
 {
     let count = pieces.parts().items().len() as u64;
     let colours = piece_colours(alloc, count, pieces.sides(), joined, marks, fewer)?;
-    let gains = gains_by(
-        alloc,
-        pieces,
-        colours.items(),
-        joined,
-        marks,
-        spacing,
-        fewer,
-    )?;
+    let gains = gains_by(alloc, pieces, &colours, joined, marks, spacing, fewer)?;
     let lines = mask_lines(alloc, colours.items(), pieces)?;
     Ok(MasksTold {
         colours,

@@ -1,21 +1,23 @@
 -- The colours with fewer stitches of a graph, from those of its summary's rows.
-use Rattle.std.proofs.Common.{◌≡◌, ℕ, ◌≤◌, Bool, List, sym, ap, ◌∙◌, subst}
+use Rattle.std.proofs.Common.{◌≡◌, ℕ, ◌≤◌, Bool, true, false, List, length, sym, ap, ◌∙◌, subst}
 use Rattle.std.specs.Prelude.{map, Option}
 use Rattle.dpl_spec_split.specs.Graphs.{graph_of}
 use Rattle.dpl_spec_split.specs.Summary.{AreStars}
 use Rattle.dpl_spec_split.specs.Colours.{AreRoots, AreColours}
 use Rattle.dpl_spec_split.proofs.Uniqueness.{roots-unique}
 use Rattle.dpl_spec_fewer.specs.Fewer.{stitch_count, LeadsTo}
-use Rattle.dpl_spec_fewer.proofs.Ends.{no-more}
+use Rattle.dpl_spec_fewer.proofs.Ends.{length-last, no-more}
 use Rattle.dpl_stars.specs.declared.list.Star.{Star}
+use Rattle.dpl_stars.specs.declared.joined.Joined.{Joined}
+use Rattle.dpl_stars.specs.declared.joined.Joined.TheVariants.{Stars, Odd}
 use Rattle.dpl_stars.specs.Sums.{row_of}
 use Rattle.dpl_orient.specs.declared.chart.Rooted.{Rooted}
 use Rattle.dpl_orient.specs.declared.mask.Mask.{Mask}
 use Rattle.dpl_orient.specs.Masks.{is_second}
 use Rattle.dpl_orient.specs.Links.{letters_of}
 use Rattle.dpl_orient.specs.Chart.{IsChart, roots_in, odds_in}
-use Rattle.dpl_orient.specs.Oriented.{AreColoursOfRows}
-use Rattle.dpl_orient.specs.Fewer.{AreLedByRows, IsFewerColouring}
+use Rattle.dpl_orient.specs.Oriented.{AreColoursOf, AreColoursOfRows, ColoursWhatSums}
+use Rattle.dpl_orient.specs.Fewer.{AreLed, AreLedByRows, ColoursBy, FewerOfWhatSums, IsFewerColouring}
 use Rattle.dpl_orient.proofs.Across.{chart-rooted}
 use Rattle.dpl_orient.proofs.Roots.{roots-from-rows, graph-mutual}
 
@@ -62,3 +64,26 @@ fewer-of-graph edges rows n sides fixed colours last known h stars =
         led = h.led;
       };
     }
+
+-- ---- where fewer stitches are asked for, and where they aren't
+
+pub reduced : (reduce : Bool) (fixed : Option ℕ) (joined : Joined) (n : ℕ) (sides : List (ℕ × ℕ)) (colours : List Bool) → reduce ≡ true
+    → FewerOfWhatSums joined n sides fixed colours → ColoursBy reduce fixed joined n sides colours
+reduced true fixed joined n sides colours e h = h
+reduced false fixed joined n sides colours e h = absurd (let no : ⊥ = cc in no)
+
+pub unreduced : (reduce : Bool) (fixed : Option ℕ) (joined : Joined) (n : ℕ) (sides : List (ℕ × ℕ)) (colours : List Bool) → reduce ≡ false
+    → ColoursWhatSums joined n sides colours → ColoursBy reduce fixed joined n sides colours
+unreduced false fixed joined n sides colours e h = h
+unreduced true fixed joined n sides colours e h = absurd (let no : ⊥ = cc in no)
+
+-- there are as many colours as pieces, plain ones or those that they lead to
+pub many-first : (joined : Joined) (n : ℕ) (sides : List (ℕ × ℕ)) (colours : List Bool) → AreColoursOf joined n sides colours → length colours ≡ n
+many-first (Stars rows) n sides colours h = h.coloured.each ∙ h.rooted.as_many_roots
+many-first Odd n sides colours h = absurd h
+
+pub many-last : (joined : Joined) (n : ℕ) (sides : List (ℕ × ℕ)) (fixed : Option ℕ) (first last : List Bool) → AreColoursOf joined n sides first
+    → AreLed joined n sides fixed first last → length last ≡ n
+many-last (Stars rows) n sides fixed first last h led =
+    length-last led.roots fixed sides first last (many-first (Stars rows) n sides first h ∙ sym led.rooted.as_many_roots) led.led ∙ led.rooted.as_many_roots
+many-last Odd n sides fixed first last h led = absurd h

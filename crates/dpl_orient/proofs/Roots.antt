@@ -12,6 +12,7 @@ use Rattle.dpl_stars.specs.declared.list.Star.{Star}
 use Rattle.dpl_stars.specs.Sums.{row_of}
 use Rattle.dpl_orient.specs.Oriented.{AreColoursOfRows, IsColouring}
 use Rattle.dpl_orient.specs.Rooted.{AreRooted, star}
+use Rattle.dpl_orient.specs.Roots.{AreRootsOfRows}
 
 contains-map : {X Y : Type 0} (f : X → Y) (xs : List X) (x : X) → Contains xs x → Contains (map f xs) (f x)
 contains-map f xs x (k, within, is) = (k, let l = length-map xs f in omega (arith, l, within), get_or-map f xs k x (f x) within ∙ ap f is)
@@ -89,6 +90,12 @@ roots-from-rows joined back rows n roots odds stars h = record {
 pub graph-mutual : (edges : List (ℕ × ℕ)) (u v : ℕ) → graph_of edges u v → graph_of edges v u
 graph-mutual edges u v (inl e) = inr e
 graph-mutual edges u v (inr e) = inl e
+
+-- the roots of a graph are those by the rows of its summary
+pub rooted-from-rows : (edges : List (ℕ × ℕ)) (rows items : List Star) (n : ℕ) (roots : List ℕ) → items ≡ rows → AreRootsOfRows items n roots
+    → AreStars (graph_of edges) (map row_of rows) → (odds : List Bool) × AreRoots (graph_of edges) n roots odds
+rooted-from-rows edges rows items n roots is (odds, h) stars =
+    (odds, roots-from-rows (graph_of edges) (graph-mutual edges) rows n roots odds stars (subst (λ r. AreRooted r n roots odds) is h))
 
 -- a graph is coloured by the rows of its summary
 pub coloured-from-rows : (edges : List (ℕ × ℕ)) (rows items : List Star) (n : ℕ) (sides : List (ℕ × ℕ)) (colours : List Bool)

@@ -4,5 +4,6 @@ pub mod Oriented
 pub mod Chart
 pub mod Crossings
 pub mod Links
+pub mod Roots
 pub mod Fewer
 pub mod Tallies

@@ -3,6 +3,7 @@
 
 mod chart;
 mod colouring;
+mod components;
 mod crossing;
 mod flipping;
 mod links;
@@ -12,5 +13,6 @@ mod reducing;
 mod tallies;
 
 pub use crate::colouring::{are_sides_below, is_even_below, orient};
-pub use crate::mask::{Colours, Mask};
-pub use crate::reducing::fewer;
+pub use crate::components::roots_below;
+pub use crate::mask::{Colours, Mask, is_second};
+pub use crate::reducing::{colours_by, fewer};

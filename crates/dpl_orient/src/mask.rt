@@ -1,8 +1,9 @@
 //! The two masks, and a colour for each piece.
-ghost use Rattle.std.specs.Prelude.{◌≡◌, ◌<◌, map, length, slice_index_or, true, false};
+ghost use Rattle.std.specs.Prelude.{◌≡◌, ◌<◌, IfOk, map, length, slice_index_or, true, false};
 ghost use Rattle.dpl_orient.specs.Masks.{is_second};
 
 use dpl_list::Id;
+use std::alloc::{AllocError, Global};
 use std::marker::Model;
 
 /// One of the two masks.
@@ -33,6 +34,13 @@ pub fn is_second(mask: Mask) -> bool
     }
 }
 
+/// For each of these masks whether it is mask B.
+fn letters_of(alloc: Global, masks: &[Mask]) -> Result<Vec<bool>, AllocError>
+    ensures { IfOk result (λ v. v.items ≡ map is_second masks.now) }
+{
+    masks.iter().map(|mask| is_second(*mask)).collect(alloc)
+}
+
 /// The mask of each piece, by the piece's number. A contract sees a list of truth values: false is mask A, true mask B.
 #[derive(Drop)]
 pub struct Colours {
@@ -61,6 +69,15 @@ impl Colours {
         ensures { map is_second result.now ≡ self.now }
     {
         self.masks.as_slice()
+    }
+
+    /// For each piece whether it is on mask B.
+    ///
+    /// The error: out of memory.
+    pub fn letters(&self, alloc: Global) -> Result<Vec<bool>, AllocError>
+        ensures { IfOk result (λ v. v.items ≡ self.now) }
+    {
+        letters_of(alloc, self.items())
     }
 
     /// The masks, without taking memory.

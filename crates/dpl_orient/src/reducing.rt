@@ -10,9 +10,10 @@ ghost use Rattle.dpl_orient.specs.Chart.{AreLow, roots_in};
 ghost use Rattle.dpl_orient.specs.Links.{AreLinksBelow, letters_of};
 ghost use Rattle.dpl_orient.specs.Tallies.{AreMutual, AreTallies, GainsAt, IsQueue, Waits, AllWait};
 ghost use Rattle.dpl_orient.specs.Oriented.{IsEvenBelow, AreColoursOf};
-ghost use Rattle.dpl_orient.specs.Fewer.{AreLedByRows, AreLed, FewerOfWhatSums};
+ghost use Rattle.dpl_orient.specs.Fewer.{AreLedByRows, AreLed, ColoursBy, FewerOfWhatSums};
 
 use crate::chart::{Rooted, chart};
+use crate::colouring::orient;
 use crate::crossing::differs;
 use crate::links::{Link, group, held_root, is_flipped, links, links_from};
 use crate::mask::{Colours, Mask, is_second};
@@ -147,4 +148,25 @@ pub fn fewer(
         Joined::Stars(rows) => fewer_rows(alloc, n, sides, rows.items(), colours, fixed),
         Joined::Odd => unreachable!(),
     }
+}
+
+/// The masks that `orient` gives, or with `reduce` those that `fewer` makes of them.
+pub fn colours_by(
+    alloc: Global,
+    n: Id,
+    sides: &[(Id, Id)],
+    joined: &Joined,
+    fixed: Option<Id>,
+    reduce: bool,
+) -> Result<Colours, AllocError>
+    requires even { IsEvenBelow n joined.now }
+    requires sides { AreSidesBelow n sides.now }
+    ensures colours { IfOk result (λ colours. ColoursBy reduce fixed joined.now n sides.now colours) }
+    ensures each { IfOk result (λ colours. length colours ≡ n) }
+{
+    let first = orient(alloc, n, sides, joined)?;
+    if reduce {
+        return fewer(alloc, n, sides, joined, &first, fixed);
+    }
+    Ok(first)
 }

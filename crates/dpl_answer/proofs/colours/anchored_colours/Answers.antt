@@ -4,12 +4,13 @@ use Rattle.std.proofs.lemmas.List.{drop-map, length-drop, length-map, take_all}
 use Rattle.dpl_orient.specs.declared.mask.Mask.{Mask}
 use Rattle.dpl_orient.specs.Masks.{is_second}
 use Rattle.std.specs.Prelude.{Some}
-use Rattle.dpl_answer.specs.Anchors.{ColoursBy, moved}
+use Rattle.dpl_orient.specs.Fewer.{ColoursBy}
+use Rattle.dpl_answer.specs.Anchors.{moved}
 use Rattle.dpl_answer.proofs.Moving.{moved-below}
 use Rattle.dpl_answer.proofs.colours.anchored_colours.Goals as goal
 
-pub vertex_colours-requires-clause-sides : goal.vertex_colours-requires-clause-sides
-vertex_colours-requires-clause-sides c = rw (c.deref.ensures.value, c.in_ok-moved.ensures, c.in-Some.ensures.1) (moved-below c.args.count c.args.sides.now c.requires.sides)
+pub colours_by-requires-clause-sides : goal.colours_by-requires-clause-sides
+colours_by-requires-clause-sides c = rw (c.deref.ensures.value, c.in_ok-moved.ensures, c.in-Some.ensures.1) (moved-below c.args.count c.args.sides.now c.requires.sides)
 
 pub slice_bounds-extend_from_slice-count : goal.slice_bounds-extend_from_slice-count
 slice_bounds-extend_from_slice-count c =

@@ -11,8 +11,9 @@ pub returns : goal.returns
 returns g c =
     let bare = c.args.pieces.now in
     let marks = marks_in (option_copied c.args.marks) in
-    let fixed = subst (λ (ps : List (List Rect)). AreMarkEdges marks ps (option_map (λ v. v.items) c.in_ok-marked.marked)) c.parts.ensures c.in_ok-marked.ensures.edges in
-    IfOk-weaker c.joined_with.result _ _ (λ v is. rw is (graph-listed marks c.args.spacing bare.parts bare.owners _ c.in_ok-edges.edges.items fixed c.in_ok-edges.ensures)) c.joined_with.ensures
+    let edges = rw (c.parts.ensures, c.owner.ensures.value) at c.in_ok-edges.ensures.edges in
+    let fixed = subst (λ (ps : List (List Rect)). AreMarkEdges marks ps (option_map (λ v. v.items) c.in_ok-marked.marked)) c.parts-2.ensures c.in_ok-marked.ensures.edges in
+    IfOk-weaker c.joined_with.result _ _ (λ v is. rw is (graph-listed marks c.args.spacing bare.parts bare.owners _ c.in_ok-edges.edges.items fixed edges)) c.joined_with.ensures
 
 pub returns-in_err-edges : goal.returns-in_err-edges
 returns-in_err-edges g c = IfOk-from_err _ _ c.from_residual.ensures.0

@@ -9,8 +9,8 @@ use Rattle.dpl_answer.specs.Anchors.{marks_of}
 use Rattle.dpl_answer.proofs.Components.{roots-summed}
 use Rattle.dpl_answer.proofs.gains.gains_among.Goals as goal
 
-pub roots_in-requires : goal.roots_in-requires
-roots_in-requires c =
+pub roots_below-requires : goal.roots_below-requires
+roots_below-requires c =
     subst (λ (n : ℕ). IsEvenBelow n c.args.joined.now) (sym (ap length (c.items.ensures.value ∙ c.parts.ensures.value))) (rw c.in-None.is at c.requires.even)
 
 pub gains_by_roots-requires-clause-roots : goal.gains_by_roots-requires-clause-roots

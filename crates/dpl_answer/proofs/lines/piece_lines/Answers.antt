@@ -19,8 +19,8 @@ loop-i-preserved c =
     let second : c.loop-i.i < length c.args.masks.now = omega arith in
     let put = rw c.of.ensures at c.in_ok-push.ensures.items in
     record {
-      put = zip_more piece_line (map is_second c.args.masks.now) keys c.loop-i.i c.is_b.result key _ _ there known
-          (get_or-map is_second c.args.masks.now c.loop-i.i _ c.is_b.result second ∙ sym c.is_b.ensures)
+      put = zip_more piece_line (map is_second c.args.masks.now) keys c.loop-i.i c.is_second.result key _ _ there known
+          (get_or-map is_second c.args.masks.now c.loop-i.i _ c.is_second.result second ∙ sym c.is_second.ensures)
           (c.key.ensures.value key) c.loop-i.invariant.put put;
       fits = rw put (fits_push IsPiece _ _ c.loop-i.invariant.fits (key_within keys c.requires.within c.loop-i.i key c.key.ensures.value));
     }

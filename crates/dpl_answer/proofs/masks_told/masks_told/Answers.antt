@@ -2,9 +2,7 @@ use Rattle.std.proofs.Common.{◌∙◌, ◌<◌, ◌^◌, ap, subst, sym, arith
 use Rattle.std.proofs.lemmas.Result.{IfOk-from_err}
 use Rattle.std.proofs.lemmas.List.{length-map}
 use Rattle.std.specs.Option.{option_copied}
-use Rattle.dpl_spec_split.specs.declared.Rect.{Rect}
 use Rattle.dpl_orient.specs.Masks.{is_second}
-use Rattle.dpl_law_verdict.specs.Own.{AreGainsBy}
 use Rattle.dpl_law_verdict.proofs.Rising.{gains-fit}
 use Rattle.dpl_piece.specs.View.{cut_view}
 use Rattle.dpl_answer.specs.Anchors.{AreLettersOf, marks_in}
@@ -23,8 +21,7 @@ gains_by-requires-clause-each c =
       c.items.ensures.value,
       c.parts.ensures.value,
     ) at c.in_ok-colours.ensures in
-    sym (length-map c.items-2.result.now is_second) ∙ (ap length c.items-2.ensures
-    ∙ letters_as_many c.args.fewer marks (length pieces.parts) edges c.args.joined.now pieces.sides colours sums letters)
+    letters_as_many c.args.fewer marks (length pieces.parts) edges c.args.joined.now pieces.sides colours sums letters
 
 pub mask_lines-requires-clause-each : goal.mask_lines-requires-clause-each
 mask_lines-requires-clause-each c =
@@ -37,7 +34,7 @@ mask_lines-requires-clause-each c =
       c.items.ensures.value,
       c.parts.ensures.value,
     ) at c.in_ok-colours.ensures in
-    sym (length-map c.items-3.result.now is_second) ∙ (ap length c.items-3.ensures
+    sym (length-map c.items-2.result.now is_second) ∙ (ap length c.items-2.ensures
     ∙ letters_as_many c.args.fewer marks (length pieces.parts) edges c.args.joined.now pieces.sides colours sums letters)
 
 pub returns : goal.returns
@@ -54,9 +51,7 @@ returns c =
     let many = letters_as_many c.args.fewer marks (length pieces.parts) edges c.args.joined.now pieces.sides colours sums letters in
     let gains = c.in_ok-gains.gains in
     let lines = c.in_ok-lines.lines in
-    let left : (features : List (List Rect)) → AreGainsBy c.args.fewer marks c.args.spacing (cut_view features pieces) colours gains = λ features.
-    subst (λ (ls : List Bool). AreGainsBy c.args.fewer marks c.args.spacing (cut_view features pieces) ls gains) c.items-2.ensures (c.in_ok-gains.ensures features) in
-    let are = subst (λ (ls : List Bool). AreMaskLines pieces.zones pieces.sides pieces.keys ls lines.pieces lines.stitches) c.items-3.ensures c.in_ok-lines.ensures.are in
+    let are = subst (λ (ls : List Bool). AreMaskLines pieces.zones pieces.sides pieces.keys ls lines.pieces lines.stitches) c.items-2.ensures c.in_ok-lines.ensures.are in
     let few_items : length c.items.result.now < 2 ^ 64 = search rules in
     let few_pieces : length pieces.parts < 2 ^ 64 = omega (arith, few_items, ap length (c.items.ensures.value ∙ c.parts.ensures.value)) in
     let few_slice : length c.sides.result.now < 2 ^ 64 = search rules in
@@ -64,8 +59,8 @@ returns c =
     record {
       letters = letters;
       each = many;
-      gains = left;
-      gains_fit = gains-fit c.args.fewer marks c.args.spacing (cut_view [] pieces) colours gains few_pieces few_sides (left []);
+      gains = c.in_ok-gains.ensures;
+      gains_fit = gains-fit c.args.fewer marks c.args.spacing (cut_view [] pieces) colours gains few_pieces few_sides (c.in_ok-gains.ensures []);
       lines = are;
       lines_fit = c.in_ok-lines.ensures.fit;
       lines_each = lines_many (length pieces.parts) colours pieces.keys lines.pieces many c.parts.ensures.keys are.pieces;

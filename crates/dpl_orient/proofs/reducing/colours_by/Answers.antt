@@ -1,6 +1,6 @@
 use Rattle.std.proofs.lemmas.Result.{IfOk-weaker, IfOk-from_err}
-use Rattle.dpl_answer.proofs.Reducing.{many-first, many-last, reduced, unreduced}
-use Rattle.dpl_answer.proofs.colours.vertex_colours.Goals as goal
+use Rattle.dpl_orient.proofs.Leading.{many-first, many-last, reduced, unreduced}
+use Rattle.dpl_orient.proofs.reducing.colours_by.Goals as goal
 
 pub returns-then-reduce-clause-colours : goal.returns-then-reduce-clause-colours
 returns-then-reduce-clause-colours c = IfOk-weaker c.fewer.result _ _
