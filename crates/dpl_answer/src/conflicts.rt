@@ -1,10 +1,9 @@
 //! The conflicts of the pieces of a layer.
-ghost use Rattle.std.specs.Prelude.{◌≤◌, ◌≡◌, ℕ, IfOk, IsTrue, Option, length};
+ghost use Rattle.std.specs.Prelude.{◌≤◌, ℕ, IfOk, IsTrue, Option};
 ghost use Rattle.dpl_spec_split.specs.Graphs.{AreEdges, graph_of};
 ghost use Rattle.dpl_spec_split.specs.Summary.{HasOddCycle};
-ghost use Rattle.std.specs.Option.{option_copied, option_map};
-ghost use Rattle.dpl_spec_split.specs.Marks.{Marks, graph, vertex};
-ghost use Rattle.dpl_stars.specs.Levels.{AreEdgesBelow};
+ghost use Rattle.std.specs.Option.{option_copied};
+ghost use Rattle.dpl_spec_split.specs.Marks.{Marks, graph};
 ghost use Rattle.dpl_stars.specs.Sums.{AreEdgePairs};
 ghost use Rattle.dpl_tile.specs.Plans.{IsPlan};
 ghost use Rattle.dpl_tile.specs.Tiles.{IsDoubled};

@@ -1,5 +1,5 @@
 //! The reported cycle of the first piece's component.
-ghost use Rattle.std.specs.Prelude.{◌≡◌, ◌<◌, ◌≤◌, IfOk, IfSome, length, slice_index};
+ghost use Rattle.std.specs.Prelude.{◌<◌, IfOk, IfSome, length};
 ghost use Rattle.dpl_spec_split.specs.Cycle.{IsReported};
 ghost use Rattle.dpl_spec_split.specs.Graphs.{IsOddCycle};
 ghost use Rattle.dpl_crowd.specs.Crowds.{graph_in};

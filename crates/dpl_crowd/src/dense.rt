@@ -17,7 +17,7 @@ pub fn slab_count(parts: &[Slabs], most: u64) -> u64 {
     count
 }
 
-/// Whether a square with sides of the rule has many of `count` things, on average over the rectangle round all parts. Once the rectangle round some of them is too large for that, the others aren't looked at.
+/// Whether a square with sides of the rule, in database units, has many of `count` things, on average over the rectangle round all parts. Once the rectangle round some of them is too large for that, the others aren't looked at.
 pub fn are_many(parts: &[Slabs], rule: u32, count: u64) -> bool {
     let mut around = None;
     for part in parts {

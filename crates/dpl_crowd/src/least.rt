@@ -1,7 +1,7 @@
 //! The least neighbour on a level, and the least level edge.
 ghost use Rattle.std.specs.Prelude.{◌≡◌, ⊤, ◌⊎◌, ◌+◌, ◌<◌, IfOk, MatchOption, length, slice_index};
 ghost use Rattle.std.specs.List.{All, Contains};
-ghost use Rattle.dpl_spec_split.specs.Cycle.{IsLevelEdge, IsParent};
+ghost use Rattle.dpl_spec_split.specs.Cycle.{IsParent};
 ghost use Rattle.dpl_crowd.specs.Crowds.{graph_in};
 ghost use Rattle.dpl_crowd.specs.Walking.{AreLevelsTo, ArePast, IsLeast, IsLeastEdge, IsOn, nowhere};
 

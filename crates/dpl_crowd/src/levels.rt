@@ -1,5 +1,5 @@
 //! Levels of numbers, one after another.
-ghost use Rattle.std.specs.Prelude.{◌≡◌, ℕ, ◌+◌, ◌<◌, IfOk, OnOk, [], length, slice_index};
+ghost use Rattle.std.specs.Prelude.{◌≡◌, ◌+◌, ◌<◌, IfOk, OnOk, length};
 ghost use Rattle.std.specs.List.{All, Contains};
 ghost use Rattle.dpl_crowd.specs.Crowds.{graph_in};
 ghost use Rattle.dpl_crowd.specs.Walking.{AreLevelsTo, IsBeside, IsFront, Meets, nowhere};

@@ -28,8 +28,9 @@ fn roots_of_rows(alloc: Global, n: Id, rows: &[Star]) -> Result<Vec<Id>, AllocEr
     roots_in(alloc, &chart)
 }
 
-/// For each piece below `n` the least piece of its component, in the graph that `joined` sums up. 2^32 pieces or more
-/// are refused as out of memory, as `orient` refuses them.
+/// For each piece below `n` the least piece of its component, in the graph that `joined` sums up.
+///
+/// The error: out of memory, as for 2^32 pieces or more.
 pub fn roots_below(alloc: Global, n: Id, joined: &Joined) -> Result<Vec<Id>, AllocError>
     requires { IsEvenBelow n joined.now }
     ensures { IfOk result (λ v. RootsWhatSums joined.now n v.items) }

@@ -1,5 +1,5 @@
 //! Stitch zones between two components.
-ghost use Rattle.std.specs.Prelude.{◌≡◌, ◌<◌, ◌+◌, [], ◌∷◌, ◌++◌, length, IfOk};
+ghost use Rattle.std.specs.Prelude.{◌≡◌, ◌<◌, ◌+◌, length, IfOk};
 ghost use Rattle.std.specs.List.Sorted.{IsPermutation, IsNonDecreasingBy};
 ghost use Rattle.dpl_spec_split.specs.Colours.{differ};
 ghost use Rattle.dpl_orient.specs.Chart.{rooted_at};

@@ -1,5 +1,5 @@
 //! Which components are flipped.
-ghost use Rattle.std.specs.Prelude.{◌≡◌, ◌<◌, ◌≤◌, ◌+◌, nat_lt, length, IfOk};
+ghost use Rattle.std.specs.Prelude.{◌≡◌, ◌<◌, ◌+◌, nat_lt, length, IfOk};
 ghost use Rattle.dpl_orient.specs.Crossings.{crossings_at, AreGrouped, GoUp, IsSplit, AreFlips, is_flipped_by};
 
 use crate::chart::Rooted;

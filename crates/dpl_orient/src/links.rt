@@ -1,5 +1,5 @@
 //! Stitch zones between two components, as seen from each of the two.
-ghost use Rattle.std.specs.Prelude.{◌≡◌, ◌<◌, [], ◌∷◌, ◌++◌, length, map, filter, ◌==◌, IfOk, slice_index_or, false};
+ghost use Rattle.std.specs.Prelude.{◌≡◌, ◌<◌, length, map, filter, ◌==◌, IfOk, slice_index_or, false};
 ghost use Rattle.std.specs.List.Sorted.{IsPermutation, IsNonDecreasingBy};
 ghost use Rattle.dpl_orient.specs.Masks.{is_second};
 ghost use Rattle.dpl_orient.specs.Rooted.{AreSidesBelow};

@@ -1,8 +1,7 @@
 //! The two masks, and a colour for each piece.
-ghost use Rattle.std.specs.Prelude.{◌≡◌, ◌<◌, IfOk, map, length, slice_index_or, true, false};
+ghost use Rattle.std.specs.Prelude.{◌≡◌, ◌<◌, IfOk, map, true, false};
 ghost use Rattle.dpl_orient.specs.Masks.{is_second};
 
-use dpl_list::Id;
 use std::alloc::{AllocError, Global};
 use std::marker::Model;
 
@@ -35,7 +34,7 @@ pub fn is_second(mask: Mask) -> bool
 }
 
 /// For each of these masks whether it is mask B.
-fn letters_of(alloc: Global, masks: &[Mask]) -> Result<Vec<bool>, AllocError>
+fn are_second(alloc: Global, masks: &[Mask]) -> Result<Vec<bool>, AllocError>
     ensures { IfOk result (λ v. v.items ≡ map is_second masks.now) }
 {
     masks.iter().map(|mask| is_second(*mask)).collect(alloc)
@@ -77,7 +76,7 @@ impl Colours {
     pub fn letters(&self, alloc: Global) -> Result<Vec<bool>, AllocError>
         ensures { IfOk result (λ v. v.items ≡ self.now) }
     {
-        letters_of(alloc, self.items())
+        are_second(alloc, self.items())
     }
 
     /// The masks, without taking memory.

@@ -1,5 +1,5 @@
 //! Components that wait to be flipped, the least first.
-ghost use Rattle.std.specs.Prelude.{◌≡◌, ◌≢◌, ◌<◌, ◌≤◌, ◌^◌, ℕ, length, IfOk, IfSome, OnOk, MatchOption};
+ghost use Rattle.std.specs.Prelude.{◌≢◌, ◌<◌, ◌≤◌, ◌^◌, ℕ, length, IfOk, IfSome, OnOk, MatchOption};
 ghost use Rattle.std.specs.BinaryHeap.{heap_items};
 ghost use Rattle.dpl_orient.specs.Links.{AreLinksBelow};
 ghost use Rattle.dpl_orient.specs.Tallies.{GainsAt, IsQueue, Waits, AllWait, AreMoved, AreCounted};

@@ -1,5 +1,5 @@
 //! Flips single components again and again, so that fewer stitch zones are stitches.
-ghost use Rattle.std.specs.Prelude.{◌≡◌, ◌<◌, ◌≤◌, ◌^◌, ℕ, length, map, not, slice_set, slice_index_or, true, false, IsTrue, ◌↔◌, IfOk, OnOk, ◌≢◌};
+ghost use Rattle.std.specs.Prelude.{◌≡◌, ◌<◌, ◌≤◌, ◌^◌, ℕ, length, map, not, slice_set, slice_index_or, false, IfOk, OnOk, ◌≢◌};
 ghost use Rattle.std.specs.BinaryHeap.{heap_items};
 ghost use Rattle.std.specs.List.Sorted.{IsNonDecreasingBy};
 ghost use Rattle.dpl_spec_fewer.specs.Fewer.{LeadsTo, stitch_count};
@@ -150,7 +150,9 @@ pub fn fewer(
     }
 }
 
-/// The masks that `orient` gives, or with `reduce` those that `fewer` makes of them.
+/// The masks that `orient` gives, or with `reduce` those that `fewer` makes of them, where the component of `fixed` stays as it is.
+///
+/// The error: out of memory, as for 2^32 pieces or more.
 pub fn colours_by(
     alloc: Global,
     n: Id,

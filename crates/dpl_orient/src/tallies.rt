@@ -1,5 +1,5 @@
 //! How many zones between each component and others have sides that differ, and how many sides that agree.
-ghost use Rattle.std.specs.Prelude.{◌≡◌, ◌<◌, ◌≤◌, ◌+◌, ◌^◌, length, slice_set, IfOk, IsTrue, ◌↔◌};
+ghost use Rattle.std.specs.Prelude.{◌≡◌, ◌<◌, ◌+◌, ◌^◌, length, slice_set, IfOk, IsTrue, ◌↔◌};
 ghost use Rattle.dpl_orient.specs.Links.{AreLinksBelow};
 ghost use Rattle.dpl_orient.specs.Tallies.{tally_at, AreTallies, more_by, moved_by, exchanged, GainsAt};
 

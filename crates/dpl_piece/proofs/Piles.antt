@@ -1,9 +1,11 @@
 -- Piles of what zones leave of features.
-use Rattle.std.proofs.Common.{◌≡◌, ℕ, suc, ◌+◌, ◌-◌, ◌*◌, ◌<◌, ◌≤◌, inl, inr, List, [], ◌∷◌, ◌++◌, length, get_or, map, refl, sym, ap, ◌∙◌, subst, arith, IfOk}
+use Rattle.std.proofs.Common.{◌≡◌, ℕ, suc, ◌+◌, ◌-◌, ◌*◌, ◌<◌, ◌≤◌, inl, inr, List, [], ◌∷◌, ◌++◌, length, get_or, map, refl, sym, ap, ◌∙◌, subst, arith, IfOk, append_assoc}
 use Rattle.std.specs.Prelude.{Result, Ok}
 use Rattle.std.specs.declared.alloc.AllocError.{AllocError}
 use Rattle.std.specs.List.Sorted.{IsNonDecreasingBy}
-use Rattle.std.specs.List.{All, Contains}
+use Rattle.std.specs.List.{All, Contains, flat_map}
+use Rattle.std.proofs.lemmas.List.Concat.{flat_map-cons}
+use Rattle.std.proofs.lemmas.List.{append-nil}
 use Rattle.std.proofs.lemmas.List.{get_or-map, length-map, map-append}
 use Rattle.std.proofs.lemmas.List.Elements.{All-append, All-contains, All-head, All-map, All-push, All-tail, Contains-append_left, Contains-append_right, Contains-append_cases, Contains-get_or, Contains-push, Contains-push_cases}
 use Rattle.std.proofs.lemmas.List.Quantifiers.{all_pairs_push}
@@ -23,7 +25,7 @@ use Rattle.dpl_sides.specs.Sided.{numbers_in, on_side, sides_in}
 use Rattle.dpl_piece.specs.declared.made.Made.{Made}
 use Rattle.dpl_piece.specs.declared.pile.Pile.{Pile}
 use Rattle.dpl_piece.specs.declared.rest.Cutting.{Cutting}
-use Rattle.dpl_piece.specs.Adding.{AddsPile, IsBegun, IsUncut}
+use Rattle.dpl_piece.specs.Adding.{AddsPile, IsBegun}
 use Rattle.dpl_piece.specs.Cutting.{AreFeatures, AreTheirZones}
 use Rattle.std.proofs.lemmas.Bool.{cases_eq}
 use Rattle.dpl_piece.specs.Made.{AddsMade, AreAllMade, AreBelow, AreMade, BeginsAt, IsOfPlaces, IsEmptyPile, IsMade, IsSided, moved_by}
@@ -31,7 +33,17 @@ use Rattle.dpl_piece.specs.Pieces.{feature_at, AddsPieces, AreZonesFrom}
 use Rattle.dpl_piece.specs.Share.{ArePiecesOf}
 use Rattle.dpl_piece.proofs.Broken.{pieces-added, pieces-both, pieces-none, pieces-same, Either, IsFeature}
 use Rattle.dpl_piece.proofs.Cuts.{comps}
-use Rattle.dpl_piece.proofs.Sides.{broken-stand, kept-after, kept-before, moved-after, moved-before, parts-broken, sided-none, some-after, some-before}
+use Rattle.dpl_piece.proofs.Sides.{broken-stand, kept-after, kept-before, moved-after, moved-before, parts-broken, some-after, some-before}
+
+-- what the elements of a list give, one behind the other, as far as they are gone through
+pub flat-next : {X A : Type 0} (f : X → List A) (all done more : List A) (left rest : List X) (x : X) → all ≡ done ++ flat_map f left → left ≡ x ∷ rest
+    → more ≡ done ++ f x → all ≡ more ++ flat_map f rest
+flat-next f all done more left rest x is next adds =
+    is ∙ ap (λ l. done ++ flat_map f l) next ∙ ap (λ l. done ++ l) (flat_map-cons f x rest) ∙ sym (append_assoc done (f x) (flat_map f rest)) ∙ ap (λ l. l ++ flat_map f rest) (sym adds)
+
+pub flat-all : {X A : Type 0} (f : X → List A) (all done : List A) (left : List X) → all ≡ done ++ flat_map f left → length left ≡ 0 → done ≡ all
+flat-all f all done [] is none = sym (is ∙ append-nil done)
+flat-all f all done (x ∷ left) is none = absurd (omega (arith, none))
 
 -- a part of all is one of those from the first on
 all-before : (parts : List (List Rect)) (z : Zone) (k : ℕ) → StandsBefore parts z k → StandsBeforeFrom parts 0 z k
@@ -316,13 +328,3 @@ module _ (zones : List Zone) (sorted : List ℕ) (from at : ℕ) (h : AreZonesFr
         ];
         upto = rw back (omega arith);
       }
-
--- nothing is added yet
-pub begun-none : (features : List (List Rect)) (zones : List Zone) (c : Cutting) → IsUncut (length zones) c → IsBegun features zones c
-begun-none features zones c is = record {
-  known = rw is.made (λ k d k_in. absurd (omega (arith, k_in)));
-  rise = rw is.made (λ i j d l j_in. absurd (omega (arith, j_in)));
-  pieces = rw (is.made, is.pieces) (pieces-none features zones);
-  sides = rw (is.made, is.pieces) (sided-none zones (parts_in []) c.noted.firsts.items c.noted.seconds.items is.firsts is.seconds);
-  wholes = is.wholes;
-}

@@ -8,7 +8,6 @@ use Rattle.dpl_spec_split.specs.declared.Spacing.{Spacing}
 use Rattle.dpl_spec_split.specs.declared.Rect.{Rect}
 use Rattle.dpl_spec_split.specs.declared.Zone.{Zone}
 use Rattle.dpl_spec_split.specs.Squares.{Region}
-use Rattle.dpl_spec_split.proofs.Ordered.{Contains-nil}
 use Rattle.dpl_spec_split.specs.Components.{AreComponents}
 use Rattle.dpl_spec_split.specs.Zones.{AreSomeZones, part_at}
 use Rattle.dpl_spec_split.specs.Pieces.{without, AreSides}
@@ -75,15 +74,6 @@ some-after parts from z k (inr h) = inr (some-corner LowerLeft parts from (corne
 -- the share of the first n features
 abbrev pub IsBelow : ℕ → ℕ → Type 0
 IsBelow n k = k < n
-
-pub sided-none : (zones : List Zone) (parts : List (List Rect)) (firsts seconds : List ℕ) → length firsts ≡ length zones → length seconds ≡ length zones
-    → AreSidesOfShare zones (Contains []) parts firsts seconds
-sided-none zones parts firsts seconds e f = record {
-  firsts-each = e;
-  seconds-each = f;
-  before = λ j j_in listed. absurd (Contains-nil (feature_at zones j) listed);
-  after = λ j j_in listed. absurd (Contains-nil (feature_at zones j) listed);
-}
 
 -- a part that stands beside a zone does so where more come behind it
 pub kept-before : (old more : List (List Rect)) (z : Zone) (k : ℕ) → StandsBefore old z k → StandsBefore (old ++ more) z k

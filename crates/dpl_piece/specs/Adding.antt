@@ -29,7 +29,7 @@ pub record AddsPile (b : Pile) (old new : Cutting) : Type 0 where
   pub firsts : AreMoved (length old.pieces.items) (numbers_in b.zones.items) (sides_in Before b.zones.items) old.noted.firsts.items new.noted.firsts.items
   pub seconds : AreMoved (length old.pieces.items) (numbers_in b.zones.items) (sides_in After b.zones.items) old.noted.seconds.items new.noted.seconds.items
 
--- just the features that workers cut were added, whose numbers rise
+-- features whose numbers rise were added, with the sides of their zones
 pub record IsBegun (features : List (List Rect)) (zones : List Zone) (c : Cutting) : Type 0 where
   pub known : All (λ k. k < length features) c.made.items
   pub rise : AllPairs (λ j k. j < k) c.made.items

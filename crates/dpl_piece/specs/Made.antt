@@ -70,7 +70,7 @@ pub record AreAllMade (features : List (List Rect)) (zones : List Zone) (piles :
 abbrev pub BeginsAt : List Zone → List ℕ → ℕ → Type 0
 BeginsAt zones sorted place = (place ≡ 0) ⊎ (feature_at zones (slice_index_or sorted (place - 1) 0) ≢ feature_at zones (slice_index_or sorted place 0))
 
--- feature k comes behind that of the last place before one, and not behind that of the last place before another
+-- one place is before another, and feature k comes behind that of the place right before the first, if there is one, but not behind that of the place right before the second
 pub record IsOfPlaces (zones : List Zone) (sorted : List ℕ) (from to k : ℕ) : Type 0 where
   pub some : from < to
   pub behind : (from ≡ 0) ⊎ (feature_at zones (slice_index_or sorted (from - 1) 0) < k)

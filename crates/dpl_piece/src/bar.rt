@@ -1,5 +1,5 @@
 //! The pieces that zones leave of a bar, without a sweep.
-ghost use Rattle.std.specs.Prelude.{◌≡◌, ◌∷◌, [], IsTrue, IfOk, IfSome};
+ghost use Rattle.std.specs.Prelude.{◌∷◌, [], IsTrue, IfOk, IfSome};
 ghost use Rattle.dpl_spec_split.specs.Slabs.{IsSolid};
 ghost use Rattle.dpl_spec_split.specs.Loops.{farthest, AreRectsWithin, IsRectWithin};
 ghost use Rattle.dpl_piece.specs.Bars.{AreHalves, CutsAcross, CutsAlong};

@@ -225,7 +225,7 @@ fn gathered(alloc: Global, made: Vec<Result<Pile, AllocError>>) -> Result<Vec<Pi
     Ok(piles)
 }
 
-/// The pieces of the features with zones, made by so many workers, each of which has as many zones: a pile for each of them, without a feature where a worker has a part of a feature's zones alone.
+/// The pieces of the features with zones, made by so many workers, each of which has as many zones: a pile for each run of zones, in order, which is empty where no feature's zones begin in its run. The error: out of memory, once all workers have ended.
 pub fn made_by<R: Threads + Sync>(
     rt: &R,
     alloc: Global,

@@ -1,5 +1,5 @@
 //! The zones of each feature.
-ghost use Rattle.std.specs.Prelude.{◌≡◌, ◌≢◌, ◌+◌, ℕ, ◌<◌, ◌≤◌, IfOk, length, map, take, slice_index_or};
+ghost use Rattle.std.specs.Prelude.{◌≡◌, ◌≢◌, ℕ, ◌<◌, ◌≤◌, IfOk, length, map, take, slice_index_or};
 ghost use Rattle.std.specs.List.{All, range_with_len};
 ghost use Rattle.dpl_sides.specs.Pieces.{rect_at, zone_at};
 ghost use Rattle.dpl_piece.specs.Pieces.{feature_at, AreZonesFrom};

@@ -1,5 +1,5 @@
 //! What zones leave of features, one after the other.
-ghost use Rattle.std.specs.Prelude.{◌≡◌, ◌+◌, ◌++◌, [], IfOk, OnOk, map};
+ghost use Rattle.std.specs.Prelude.{◌≡◌, ◌+◌, ◌++◌, IfOk, OnOk, map};
 ghost use Rattle.dpl_piece.specs.Made.{AddsMade, IsEmptyPile, moved_by};
 
 use crate::made::Made;
@@ -37,7 +37,7 @@ fn add_moved(zones: &mut Vec<Sided>, more: &[Sided], from: usize) -> Result<(), 
 }
 
 impl Pile {
-    /// A pile of no feature, with room for so many zones, and for twice as many pieces.
+    /// A pile of no feature, with room for so many zones, and for twice as many pieces. The error: out of memory.
     pub fn with_room(alloc: Global, zones: usize) -> Result<Pile, AllocError>
         ensures { IfOk result IsEmptyPile }
     {
@@ -48,7 +48,7 @@ impl Pile {
         })
     }
 
-    /// Adds what was made of a feature.
+    /// Adds what was made of a feature. The error: out of memory.
     pub fn add(&mut self, made: Made) -> Result<(), AllocError>
         ensures { OnOk result (AddsMade made self.old self.new) }
     {

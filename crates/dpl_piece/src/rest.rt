@@ -1,7 +1,6 @@
 //! What zones leave of features.
 ghost use Rattle.std.specs.Prelude.{◌≡◌, ◌<◌, ◌↔◌, List, IfOk, IsTrue, OnOk, length, map};
-ghost use Rattle.std.specs.List.{All, AllZip};
-ghost use Rattle.std.specs.List.Sorted.{IsPermutation};
+ghost use Rattle.std.specs.List.{All, AllZip, flat_map};
 ghost use Rattle.dpl_spec_split.specs.declared.Rect.{Rect as RectOf};
 ghost use Rattle.dpl_spec_split.specs.Loops.{farthest, AreRectsWithin};
 ghost use Rattle.dpl_piece.specs.Cutting.{AreFeatures, AreTheirZones};
@@ -10,7 +9,7 @@ ghost use Rattle.dpl_sides.specs.declared.standing.Side.TheVariants.{Before, Aft
 ghost use Rattle.dpl_sides.specs.Sided.{numbers_in, sides_in};
 ghost use Rattle.dpl_piece.specs.Made.{AreAllMade, AreLeft};
 ghost use Rattle.dpl_sides.specs.Noted.{AreMoved, IsSortedWith};
-ghost use Rattle.dpl_sides.specs.Pieces.{least_key, rect_at, parts_in, RiseByLeast};
+ghost use Rattle.dpl_sides.specs.Pieces.{rect_at, parts_in};
 ghost use Rattle.dpl_piece.specs.Adding.{AddsFeature, AddsNext, AddsPile, IsBegun, IsMadeAt, IsUncut};
 ghost use Rattle.dpl_piece.specs.Pieces.{AddsPieces, AreCut, AreZonesFrom};
 ghost use Rattle.dpl_piece.specs.Wholes.{AreWholes, KeepsWhole};
@@ -70,7 +69,7 @@ fn add_pieces(
     Ok(())
 }
 
-/// The pieces so far, the features so far that were cut, the pieces noted for the zones, and the features whose pieces workers made, which come first.
+/// The pieces so far, the features so far that were cut, the pieces noted for the zones, and the numbers of the features that workers cut, whose pieces come first.
 #[derive(Drop)]
 struct Cutting {
     pieces: Vec<Piece>,
@@ -120,7 +119,7 @@ impl Cutting {
         self.made.append(&mut features)
     }
 
-    /// Begins with the pieces of the features that workers cut, with room for so many pieces in all.
+    /// Begins with the pieces of the features that workers cut, pile by pile, with room for so many pieces in all.
     fn begun(
         alloc: Global,
         piles: Vec<Pile>,
@@ -128,7 +127,8 @@ impl Cutting {
         zones: &[Zone],
     ) -> Result<Cutting, AllocError>
         requires { All (λ b. All (λ j. j < length zones.now) (numbers_in b.zones.items)) piles.items }
-        ensures { IfOk result (λ c. (features : List (List RectOf)) → AreFeatures features → AreTheirZones features zones.now → AreAllMade features zones.now piles.items → IsBegun features zones.now c) }
+        ensures made { IfOk result (λ c. c.made.items ≡ flat_map (λ b. b.features.items) piles.items) }
+        ensures begun { IfOk result (λ c. (features : List (List RectOf)) → AreFeatures features → AreTheirZones features zones.now → AreAllMade features zones.now piles.items → IsBegun features zones.now c) }
     {
         let mut cutting = Cutting::new(alloc, room, zones.len())?;
         for pile in piles {
@@ -168,7 +168,7 @@ impl Cutting {
         }
     }
 
-    /// Adds the pieces into which its own zones break a feature, or keeps the feature alone where workers made them, and it stands at this place among those. Returns the place of the next.
+    /// Adds the next feature. Where it stands at this place among those that workers cut, it is only kept; else its own zones break it, and its pieces are added. Returns the place of the next of those. The error: out of memory.
     fn add(
         &mut self,
         alloc: Global,
@@ -207,8 +207,9 @@ impl Cutting {
             mut pieces,
             wholes,
             noted,
-            ..
+            made,
         } = self;
+        drop(made);
         let sides = sort_with_sides(alloc, &mut pieces, noted)?;
         Ok(CutUp {
             pieces,

@@ -1,4 +1,4 @@
-use Rattle.std.proofs.Common.{inl, inr, length, sym, subst, arith}
+use Rattle.std.proofs.Common.{inl, inr, sym, subst, arith}
 use Rattle.std.specs.BinaryHeap.{heap_items}
 use Rattle.std.proofs.lemmas.Bool.{cases_eq}
 use Rattle.dpl_orient.specs.Tallies.{GainsAt, Waits}

@@ -28,7 +28,7 @@ loop-feature-init c =
       count = search rules;
       zones = rw c.as_slice-rest.ensures.value c.requires.sorted;
       added = added-begun c.args.features.items c.args.zones.now c.in_ok-cutting.cutting
-          (c.in_ok-cutting.ensures c.args.features.items c.requires.features c.requires.zones c.requires.made);
+          (c.in_ok-cutting.ensures.begun c.args.features.items c.requires.features c.requires.zones c.requires.made);
     }
 
 pub split_at-requires : goal.split_at-requires
